@@ -1,0 +1,3 @@
+pub mod Searches
+pub mod Says
+pub mod Uppermost

@@ -1,0 +1,5 @@
+use Rattle.terms.proofs.Says.{repeats-says, beyond-says, union-says, size-says}
+use Rattle.terms.proofs.laws.groups_say_so.Needs as need
+
+pub returns : need.returns
+returns c = record { repeats = repeats-says; beyond = beyond-says; union = union-says; size = size-says }

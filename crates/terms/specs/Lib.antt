@@ -1,0 +1,7 @@
+pub mod Limits
+pub mod Tests
+pub mod Groups
+pub mod Refusals
+pub mod Relations
+pub mod Terms
+pub mod Laws
