@@ -1,0 +1,11 @@
+pub mod Accepted
+pub mod Apart
+pub mod Histories
+pub mod Keeps
+pub mod Ledgers
+pub mod Order
+pub mod PriceLists
+pub mod PricesKept
+pub mod Replayed
+pub mod Rules
+pub mod TermPlaces

@@ -1,0 +1,7 @@
+pub mod Limits
+pub mod Ledger
+pub mod Layout
+pub mod Of
+pub mod Kept
+pub mod History
+pub mod Cards
