@@ -7,7 +7,7 @@ use lib.Dec.{eqb, leb, ltb}
 use lib.IntN.{ℤ, natAbs}
 use lib.ListN.{length, drop}
 use Rattle.std.specs.declared.option.Option.the-variants.{Some, None}
-use Rattle.std.proofs.shelf.Tests.{ltb-false, leb-false, or-parts, not-false}
+use Rattle.std.proofs.shelf.Tests.{ltb-false, leb-false, or-parts}
 use Rattle.terms.specs.Limits.{most-terms, most-named, most-bound, relation-count}
 use Rattle.terms.specs.Refusals.{row}
 use Rattle.terms.specs.Tests.{any, repeats, is-empty}
@@ -92,11 +92,5 @@ fit-price l amount group h =
       few = ltb-false most-named (size group) (free .1 .1 .1 .1 .0);
     }
 
-pub record Fit-withdraw (l : Ledger) (number : ℕ) : Type 0 where
-  pub numbered : number < rule-numbers
-  pub there : live l number ≡ true
-
-pub fit-withdraw : (l : Ledger) (number : ℕ) → refusal l (Withdraws number) ≡ None → Fit-withdraw l number
-fit-withdraw l number h =
-    let free = no-row (withdraw-rows l number) h in
-    record { numbered = leb-false rule-numbers number (free .0); there = not-false (live l number) (free .1 .0) }
+pub fit-withdraw : (l : Ledger) (number : ℕ) → refusal l (Withdraws number) ≡ None → number < rule-numbers
+fit-withdraw l number h = leb-false rule-numbers number (no-row (withdraw-rows l number) h .0)

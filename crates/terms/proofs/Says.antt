@@ -15,9 +15,9 @@ use lib.ListN.{length, getD}
 use lib.Pow.{pow-mono}
 use Rattle.std.specs.shelf.Lists.{At, folded}
 use Rattle.std.proofs.shelf.Ways.{tells, not-from-decides, decides-like, decides-or, decides-by-or}
-use Rattle.std.proofs.shelf.Bits.{or-shr, shr-shr, pow-pos, le-div, div-below, pow-below, leading-top}
+use Rattle.std.proofs.shelf.Bits.{or-shr, shr-shr, pow-pos, le-div, div-below, leading-top}
 use Rattle.std.proofs.shelf.Lists.{getD-default}
-use Rattle.std.proofs.shelf.Tests.{false≢true, cases-lt, or-parts, eq-eqb, eqb-true, leb-true, leb-false, lt-leb}
+use Rattle.std.proofs.shelf.Tests.{false≢true, cases-lt, or-parts, eq-eqb, eqb-true, leb-true}
 use Rattle.terms.specs.Tests.{any, repeats}
 use Rattle.terms.specs.Groups.{holds, beyond}
 use Rattle.terms.specs.Laws.{Any-says, Repeats-says, Beyond-says, Union-says, Size-says, passing}
@@ -60,7 +60,7 @@ odd-or : (x y : ℕ) → eqb (bitOr x y % 2) 1 ≡ (eqb (x % 2) 1 || eqb (y % 2)
 odd-or x y = grind (arith, tells, or-step x y)
 
 -- one spot of a union of two groups
-pub holds-or : (a b i : ℕ) → holds (bitOr a b) i ≡ (holds a i || holds b i)
+holds-or : (a b i : ℕ) → holds (bitOr a b) i ≡ (holds a i || holds b i)
 holds-or a b i = rw (or-shr a b i) (odd-or (a / 2 ^ i) (b / 2 ^ i))
 
 -- the union of the groups of a list, from one on
@@ -92,9 +92,6 @@ beyond-says n g = (
 
 pub beyond-false : (n g : ℕ) → beyond n g ≡ false → (i : ℕ) → holds g i ≡ true → i < n
 beyond-false n g h i on = ⊎-elim (λ l. l) (λ l. absurd (not-from-decides (beyond n g) (beyond-says n g) h (i, l, on))) (cases-lt i n)
-
-pub beyond-more : (n g : ℕ) → beyond n g ≡ false → beyond (n + 1) g ≡ false
-beyond-more n g h = lt-leb (2 ^ (n + 1)) g (omega (arith, leb-false (2 ^ n) g h, pow-below n (n + 1) (omega arith)))
 
 -- the count split at its lowest number, where `passing` splits off its highest
 passing-low : (n : ℕ) (f : ℕ → Bool) → passing (suc n) f ≡ cond (f 0) 1 0 + passing n (λ i. f (suc i))

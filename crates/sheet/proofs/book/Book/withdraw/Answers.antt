@@ -15,7 +15,7 @@ use Rattle.sheet.proofs.Rules.{put-set, within-none}
 use Rattle.sheet.proofs.book.Book.withdraw.Needs as need
 
 low : (b : Book) (n : ℕ) → None ≡ refusal (ledger b false) (Withdraws n) → n < length (b .rules)
-low b n e = omega (arith, fit-withdraw (ledger b false) n (sym e) .numbered, b .size)
+low b n e = omega (arith, fit-withdraw (ledger b false) n (sym e), b .size)
 
 pub ghost-self : need.ghost-self
 ghost-self c =
