@@ -16,6 +16,7 @@ use Rattle.std.proofs.shelf.Sums.{sumBy-cons, countBy-le-length}
 use Rattle.std.proofs.shelf.Tests.{cases-bool, cond-both, eqb-true, eqb-false, ltb-false, or-parts, true≢false}
 use Rattle.terms.specs.Groups.{beyond}
 use Rattle.terms.specs.Limits.{most-coefficient, relation-count}
+use Rattle.terms.specs.Refusals.{unless}
 use Rattle.terms.specs.Relations.{relation-number, relation-of}
 use Rattle.terms.specs.Terms.{group-of, blank, unfit, no-term}
 use Rattle.terms.specs.Tests.{is-empty}
@@ -26,7 +27,7 @@ use Rattle.terms.specs.declared.relations.Relation.the-variants.{Equal, AtMost,
 use Rattle.terms.proofs.Says.{any-false, repeats-false, beyond-false}
 use Rattle.sheet.specs.declared.prices.Price.{Price}
 use Rattle.sheet.specs.Ledger.{Ledger, LiveRule, Place, Posting, put, new-places, empty-ledger, spots, is-used, unused, taken, rule-of}
-use Rattle.sheet.specs.Ledger.{Call, Declares, Posts, Prices, Withdraws, Locks, Unlocks, refusal, allowed, unless, done, step}
+use Rattle.sheet.specs.Ledger.{Call, Declares, Posts, Prices, Withdraws, Locks, Unlocks, refusal, allowed, done, step}
 use Rattle.sheet.specs.Ledger.{declared, posted, withdrawn}
 use Rattle.sheet.specs.Layout.{no-price}
 use Rattle.sheet.specs.Kept.{Spotted, Kept-term, Kept-rule, Kept-prices, Kept}

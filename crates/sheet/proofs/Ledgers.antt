@@ -6,10 +6,10 @@ use Prim.Native.Nat.{ℕ}
 use Rattle.std.specs.declared.option.Option.{Option}
 use Rattle.std.specs.declared.option.Option.the-variants.{None}
 use Rattle.std.specs.declared.result.Result.the-variants.{Ok}
-use Rattle.terms.specs.Refusals.{answered}
+use Rattle.terms.specs.Refusals.{answered, unless}
 use Rattle.terms.specs.declared.refusals.Refusal.{Refusal}
 use Rattle.sheet.specs.declared.prices.Price.{Price}
-use Rattle.sheet.specs.Ledger.{Ledger, LiveRule, Place, Run, Call, refusal, done, made, unless}
+use Rattle.sheet.specs.Ledger.{Ledger, LiveRule, Place, Run, Call, refusal, done, made}
 
 pub same-ledger : {h h′ : List ℕ} {r r′ : ℕ → Option LiveRule} {p p′ : List Price} {t t′ : List Place} {q q′ : ℕ → Option Run} (b : Bool)
     → h ≡ h′ → ((n : ℕ) → r n ≡ r′ n) → p ≡ p′ → t ≡ t′ → ((n : ℕ) → q n ≡ q′ n)

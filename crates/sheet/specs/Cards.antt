@@ -9,7 +9,7 @@ use Rattle.std.specs.shelf.Lists.{folded}
 use Rattle.std.specs.declared.option.Option.{Option}
 use Rattle.std.specs.declared.option.Option.the-variants.{Some, None}
 use Rattle.std.specs.declared.result.Result.{Result}
-use Rattle.terms.specs.Refusals.{Row, row, uppermost, answered}
+use Rattle.terms.specs.Refusals.{Row, row, uppermost, answered, unless}
 use Rattle.terms.specs.declared.refusals.Refusal.{Refusal}
 use Rattle.terms.specs.declared.refusals.Refusal.the-variants.{OffSheet}
 use Rattle.sheet.specs.declared.cards.Pin.{Pin}
@@ -17,7 +17,7 @@ use Rattle.sheet.specs.declared.cards.Card.{Card}
 use Rattle.sheet.specs.declared.cards.Pinning.{Pinning}
 use Rattle.sheet.specs.declared.cards.Pinning.the-variants as pinnings
 use Rattle.sheet.specs.Limits.{most-spots}
-use Rattle.sheet.specs.Ledger.{put, unless}
+use Rattle.sheet.specs.Ledger.{put}
 
 -- the pin of each spot, where it has one
 abbrev pub Pins : Type 0

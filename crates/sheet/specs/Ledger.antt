@@ -12,7 +12,7 @@ use Rattle.std.specs.declared.option.Option.{Option}
 use Rattle.std.specs.declared.option.Option.the-variants.{Some, None}
 use Rattle.std.specs.declared.result.Result.{Result}
 use Rattle.terms.specs.Limits.{most-terms, most-named, most-bound, relation-count}
-use Rattle.terms.specs.Refusals.{Row, row, uppermost, answered, Uppermost}
+use Rattle.terms.specs.Refusals.{Row, row, uppermost, answered, unless, Uppermost}
 use Rattle.terms.specs.Relations.{relation-of}
 use Rattle.terms.specs.Tests.{any, repeats, is-empty}
 use Rattle.terms.specs.Groups.{beyond, size}
@@ -240,11 +240,6 @@ done l (Prices amount group) = repriced l amount group
 done l (Withdraws number) = withdrawn l number
 done l Locks = with-lock l true
 done l Unlocks = with-lock l false
-
--- the value, unless there is a refusal
-abbrev pub unless : {X : Type 0} → Option Refusal → X → X → X
-unless None refused accepted = accepted
-unless (Some e) refused accepted = refused
 
 -- what a call makes of the ledger: nothing where a row fits
 abbrev pub made : Ledger → Call → Ledger

@@ -1,3 +1,4 @@
 pub mod Searches
 pub mod Says
+pub mod Packing
 pub mod Uppermost

@@ -99,7 +99,7 @@ passing-low zero f = refl
 passing-low (suc n) f = omega (arith, passing-low n f)
 
 -- halving moves each spot down by one
-holds-half : (g i : ℕ) → holds (g / 2) i ≡ holds g (suc i)
+pub holds-half : (g i : ℕ) → holds (g / 2) i ≡ holds g (suc i)
 holds-half g i = rw (← one-add i) (ap (λ x. eqb (x % 2) 1) (shr-shr g 1 i))
 
 pub size-says : Size-says

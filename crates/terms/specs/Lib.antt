@@ -4,4 +4,5 @@ pub mod Groups
 pub mod Refusals
 pub mod Relations
 pub mod Terms
+pub mod Packing
 pub mod Laws

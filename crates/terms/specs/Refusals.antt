@@ -78,6 +78,11 @@ abbrev pub answered : {X : Type 0} → Option Refusal → X → Result X Refusal
 answered None x = Ok x
 answered (Some e) x = Err e
 
+-- what a call leaves behind: what was there where it is refused, else what it makes
+abbrev pub unless : {X : Type 0} → Option Refusal → X → X → X
+unless None refused accepted = accepted
+unless (Some e) refused accepted = refused
+
 -- no row fits
 abbrev pub None-fits : List Row → Type 0
 None-fits rs = (k : ℕ) (d : Row) → k < length rs → getD rs k d .fits ≡ false

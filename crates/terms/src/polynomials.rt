@@ -1,6 +1,6 @@
 // Terms: the products of which a pseudo-Boolean polynomial is the sum.
 
-// A term is worth its coefficient in a line-up that contains the whole group, else 0.
+// A coefficient times a product of spots: it counts where all spots of the group run, and is worth nothing elsewhere.
 // Bit i of the group stands for spot i.
 #[derive(Clone, Copy, PartialEq, Eq, Debug)]
 pub struct Term {
