@@ -1,0 +1,9 @@
+pub mod Accepted
+pub mod Conversions
+pub mod Entries
+pub mod Halves
+pub mod Inverse
+pub mod Joins
+pub mod Powers
+pub mod RuleTables
+pub mod Totals

@@ -1,0 +1,4 @@
+pub mod Limits
+pub mod Tables
+pub mod Conversion
+pub mod NormalForm
