@@ -8,4 +8,5 @@ pub mod PriceLists
 pub mod PricesKept
 pub mod Replayed
 pub mod Rules
+pub mod RuleTables
 pub mod TermPlaces

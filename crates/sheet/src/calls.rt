@@ -17,7 +17,7 @@ impl Draft {
         Draft { book: Book::new() }
     }
 
-    // Adds a spot, and answers its number.
+    // One spot more; the answer is the number that it got.
     pub fn declare(&mut self, house: u32) -> Result<u32, Refusal>
         ensures after { λ _. ⌜ draft-ledger (now (self .exit)) ≡ step (draft-ledger (now (self .entry))) (Declares house) ⌝ }
         ensures answer { λ r. ⌜ r ≡ declare-answer (draft-ledger (now (self .entry))) house ⌝ }
@@ -25,7 +25,7 @@ impl Draft {
         self.book.declare(house)
     }
 
-    // Makes a rule live under a free number, its terms in the next unused places.
+    // A rule more, under a number that none has. Its terms take places that were never used.
     pub fn post(
         &mut self,
         number: u8,

@@ -21,7 +21,7 @@ impl Card {
         }
     }
 
-    // Pins a spot; a new pin replaces the old one.
+    // Pins a spot, whatever pin it had.
     pub fn pin(&mut self, spot: u32, pin: Pin) -> Result<(), Refusal>
         ensures after { λ _. ⌜ pins-of (now (self .exit)) ≡ pin-step (pins-of (now (self .entry))) (Sets spot pin) ⌝ }
         ensures answer { λ r. ⌜ r ≡ pin-answer (Sets spot pin) ⌝ }

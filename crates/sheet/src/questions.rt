@@ -4,6 +4,7 @@ ghost use mathlib.Core.Bool.{false};
 ghost use Rattle.std.specs.Options.{mapped};
 ghost use Rattle.sheet.specs.Ledger.{Told, unused};
 ghost use Rattle.sheet.specs.Kept.{Kept};
+ghost use Rattle.sheet.specs.RuleTables.{Rules-have-tables};
 ghost use Rattle.sheet.specs.Of.{ledger};
 ghost use Rattle.sheet.specs.History.{draft-ledger, locked-ledger, rule-seen};
 use crate::book::Book;
@@ -56,6 +57,11 @@ impl Draft {
         ensures told { λ _. ⌜ Told (draft-ledger (now (self .entry))) ⌝ }
     {}
 
+    // Each rule of a draft is in the normal form that `to_values` and `to_terms` speak of. The call does nothing: its contract is the statement.
+    pub fn rules_have_tables(&self)
+        ensures { λ _. ⌜ Rules-have-tables (draft-ledger (now (self .entry)) .contents) ⌝ }
+    {}
+
     // How many terms may still be posted.
     pub fn unused_places(&self) -> usize
         ensures { λ r. ⌜ r ≡ unused (draft-ledger (now (self .entry)) .places) ⌝ }
@@ -69,6 +75,11 @@ impl Locked {
     pub fn keeps(&self)
         ensures kept { λ _. ⌜ Kept (locked-ledger (now (self .entry))) ⌝ }
         ensures told { λ _. ⌜ Told (locked-ledger (now (self .entry))) ⌝ }
+    {}
+
+    // Each rule of a locked sheet is in the normal form that `to_values` and `to_terms` speak of. The call does nothing: its contract is the statement.
+    pub fn rules_have_tables(&self)
+        ensures { λ _. ⌜ Rules-have-tables (locked-ledger (now (self .entry)) .contents) ⌝ }
     {}
 
     // How many terms may still be posted once the sheet is unlocked.
