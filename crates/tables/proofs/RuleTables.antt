@@ -18,7 +18,7 @@ use Rattle.terms.specs.declared.polynomials.Term.{Term}
 use Rattle.terms.specs.Groups.{inside, size}
 use Rattle.terms.specs.Limits.{most-coefficient, most-terms}
 use Rattle.tables.specs.Limits.{most-entry, most-table-spots}
-use Rattle.tables.specs.NormalForm.{total, Holds-sums, place-of, Holds-coefficients, Has-table}
+use Rattle.tables.specs.NormalForm.{total, Holds-sums, packed-place, Holds-coefficients, Has-table}
 use Rattle.terms.specs.Packing.{packed, packed-terms}
 use Rattle.terms.specs.Refusals.{answered, unless}
 use Rattle.tables.specs.Tables.{plus, as-terms, values, coefficients, table-refusal, coefficient-in, rule-table}
@@ -103,16 +103,16 @@ module _ (ts : List Term) (below : named ts < 2 ^ 32) where
       part : (i : ℕ) → i < length ts → inside (getD ts i no-term .group) (named ts) ≡ true
       part i l = all-getD (λ t. inside (t .group) (named ts) ≡ true) ts i no-term l (inside-named ts)
 
-      places : (i j : ℕ) → i < j → j < length ts → place-of ts i ≡ place-of ts j → ⊥
+      places : (i j : ℕ) → i < j → j < length ts → packed-place ts i ≡ packed-place ts j → ⊥
       places i j h l same =
           let k : i < length ts = omega arith in
           let alike = packed-apart (named ts) _ _ below (part i k) (part j l) same in
           apart i j h (rw (length-map ts group-of) l) (getD-map group-of ts i no-term 0 k ∙ alike ∙ sym (getD-map group-of ts j no-term 0 l))
 
-      stands : (j : ℕ) → j < length ts → getD (rule-table ts) (place-of ts j) (pos 0) ≡ getD ts j no-term .coefficient
-      stands j l = table-entry ts (place-of ts j) (packed-below (named ts) _ below) ∙ coefficient-only (named ts) ts places j l
+      stands : (j : ℕ) → j < length ts → getD (rule-table ts) (packed-place ts j) (pos 0) ≡ getD ts j no-term .coefficient
+      stands j l = table-entry ts (packed-place ts j) (packed-below (named ts) _ below) ∙ coefficient-only (named ts) ts places j l
 
-      nothing : (g : ℕ) → ((j : ℕ) → j < length ts → place-of ts j ≡ g → ⊥) → getD (rule-table ts) g (pos 0) ≡ pos 0
+      nothing : (g : ℕ) → ((j : ℕ) → j < length ts → packed-place ts j ≡ g → ⊥) → getD (rule-table ts) g (pos 0) ≡ pos 0
       nothing g none =
           ⊎-elim (λ l. table-entry ts g l ∙ coefficient-none (named ts) ts g none) (λ l. getD-past (rule-table ts) g (pos 0) (rw (table-long ts) l))
           (cases-lt g (2 ^ size (named ts)))

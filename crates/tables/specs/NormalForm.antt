@@ -54,15 +54,15 @@ abbrev pub Holds-sums : List Term → List ℤ → Type 0
 Holds-sums ts vs = (length vs ≡ 2 ^ size (named ts)) × ((x : ℕ) → x < 2 ^ 32 → getD vs (packed (named ts) x) (pos 0) ≡ worth ts x)
 
 -- where a term table over the spots that the terms name holds the term at place j
-abbrev pub place-of : List Term → ℕ → ℕ
-place-of ts j = packed (named ts) (getD ts j no-term .group)
+abbrev pub packed-place : List Term → ℕ → ℕ
+packed-place ts j = packed (named ts) (getD ts j no-term .group)
 
 -- each coefficient stands where its packed group is, and no other entry differs from 0
 abbrev pub Holds-coefficients : List Term → List ℤ → Type 0
 Holds-coefficients ts cs =
     (length cs ≡ 2 ^ size (named ts))
-    × ((j : ℕ) → j < length ts → getD cs (place-of ts j) (pos 0) ≡ getD ts j no-term .coefficient)
-    × ((g : ℕ) → ((j : ℕ) → j < length ts → place-of ts j ≡ g → ⊥) → getD cs g (pos 0) ≡ pos 0)
+    × ((j : ℕ) → j < length ts → getD cs (packed-place ts j) (pos 0) ≡ getD ts j no-term .coefficient)
+    × ((g : ℕ) → ((j : ℕ) → j < length ts → packed-place ts j ≡ g → ⊥) → getD cs g (pos 0) ≡ pos 0)
 
 -- The terms and their table over the spots that they name, which are few: the table holds the coefficients; `to_values` makes of it the
 -- sums at all line-ups; and of any table of those sums `to_terms` makes that table again.

@@ -102,10 +102,6 @@ abbrev pub coefficient-in : List Term → ℕ → ℤ
 coefficient-in [] g = pos 0
 coefficient-in (t ∷ ts) g = cond (eqb (t .group) g) (t .coefficient) (pos 0) +ℤ coefficient-in ts g
 
--- the term table of terms whose groups are below n
-abbrev pub table-of : ℕ → List Term → List ℤ
-table-of n ts = tabulated n (coefficient-in ts)
-
 -- the term table of a rule's terms over the spots that they name: the groups are packed, and what no term has is 0
 abbrev pub rule-table : List Term → List ℤ
-rule-table ts = table-of (2 ^ size (named ts)) (packed-terms (named ts) ts)
+rule-table ts = tabulated (2 ^ size (named ts)) (coefficient-in (packed-terms (named ts) ts))
