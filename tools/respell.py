@@ -14,7 +14,7 @@ import re
 import sys
 
 HEAD = re.compile(r"^(?:(?:abbrev|unfoldable|pub|data|record|ruleset)\s+)*([^\s(){}\[\].,;:=]+)(?=\s|:)[^:]*:\s*(\S*)")
-MEMBER = re.compile(r"^  (?:pub )?([^\s(){}\[\].,;:=]+) : ")
+MEMBER = re.compile(r"^  (?:abbrev )?(?:pub )?([^\s(){}\[\].,;:=]+) : ")
 TOKEN = re.compile(r"[^\s(){}\[\].,;\"`|]+")
 LIBRARY = {"getD": "get_or", "sumBy": "sum_by"}
 # A name that would be that of the module it stands in.
@@ -32,17 +32,17 @@ def antt_files(folders=("specs", "proofs")):
 
 def declared(path):
     """The names that a file declares: definitions, lemmas, fields and constructors, but no answers to goals."""
-    found, in_type = set(), False
+    found, inside = set(), False
     with open(path, encoding="utf-8") as f:
         for line in f:
             if line.startswith(("use ", "pub use ", "pub mod ", "mod ", "--", "unfolding ")):
                 continue
             if not line.startswith(" "):
-                in_type = bool(re.match(r"^(?:pub )?(?:data|record) ", line)) and line.rstrip().endswith("where")
+                inside = (inside and not line.strip()) or bool(re.match(r"^(?:pub )?(?:data|record|module) ", line)) or (inside and line.startswith(")"))
                 m = HEAD.match(line)
                 if m and not m[2].startswith(("goal.", "given.", "need.")):
                     found.add(m[1])
-            elif in_type and (m := MEMBER.match(line)):
+            elif inside and (m := MEMBER.match(line)):
                 found.add(m[1])
     return found
 

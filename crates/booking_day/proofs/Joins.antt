@@ -50,9 +50,9 @@ Spelled group n text first =
     (text ≡ codes "{" ++ joined_by (codes " ") (map decimal (spots_below n group))) × (first ≡ is_empty (spots_below n group))
 
 module _ (group n : ℕ) (text : List ℕ) (first : Bool) (spelled : Spelled group n text first) where
-  pub spelled-more : holds group n ≡ true → (longer piece : List ℕ) → longer ≡ text ++ (cond first [] (codes " ") ++ piece) → piece ≡ decimal n
+  pub spelled_more : holds group n ≡ true → (longer piece : List ℕ) → longer ≡ text ++ (cond first [] (codes " ") ++ piece) → piece ≡ decimal n
       → Spelled group (n + 1) longer false
-  spelled-more held longer piece grown is =
+  spelled_more held longer piece grown is =
       let spots = spots_more n group ∙ ap (λ b. spots_below n group ++ cond b (n ∷ []) []) held in (
         grown ∙ (λ k. spelled.0 k ++ (cond (spelled.1 k) [] (codes " ") ++ is k))
             ∙ ap (λ l. codes "{" ++ l) (sym (mapped_push decimal (codes " ") (spots_below n group) n))
@@ -65,7 +65,7 @@ module _ (group n : ℕ) (text : List ℕ) (first : Bool) (spelled : Spelled gro
       let spots = spots_more n group ∙ ap (λ b. spots_below n group ++ cond b (n ∷ []) []) held ∙ append-nil (spots_below n group) in
       subst (λ l. (text ≡ codes "{" ++ joined_by (codes " ") (map decimal l)) × (first ≡ is_empty l)) (sym spots) spelled
 
-  pub spelled-all : n ≡ 32 → text ++ codes "}" ≡ group_text group
+  pub spelled_all : n ≡ 32 → text ++ codes "}" ≡ group_text group
   unfolding group_text
-  spelled-all end =
+  spelled_all end =
       ap (λ l. l ++ codes "}") (spelled.0 ∙ ap (λ k. codes "{" ++ joined_by (codes " ") (map decimal (spots_below k group))) end)

@@ -21,19 +21,19 @@ repeats_apart xs apart = ⊎_elim
 
 -- the numbers that g gives of a list's elements, and of those alone that pass
 module _ {X : Type 0} (g : X → ℕ) (test : X → Bool) where
-  any-kept-by : (f : ℕ → Bool) (xs : List X) → any f (map g xs) ≡ false → any f (map g (filter test xs)) ≡ false
-  any-kept-by f [] h = refl
-  any-kept-by f (x ∷ xs) h =
+  any_kept_by : (f : ℕ → Bool) (xs : List X) → any f (map g xs) ≡ false → any f (map g (filter test xs)) ≡ false
+  any_kept_by f [] h = refl
+  any_kept_by f (x ∷ xs) h =
       let (here, later) = or_parts (f (g x)) (any f (map g xs)) h in
-      let rest = any-kept-by f xs later in
+      let rest = any_kept_by f xs later in
       cond_both (test x) _ _ (λ ys. any f (map g ys) ≡ false) (λ _. or_from (f (g x)) _ here rest) (λ _. rest)
 
-  repeats-kept-by : (xs : List X) → repeats (map g xs) ≡ false → repeats (map g (filter test xs)) ≡ false
-  repeats-kept-by [] h = refl
-  repeats-kept-by (x ∷ xs) h =
+  repeats_kept_by : (xs : List X) → repeats (map g xs) ≡ false → repeats (map g (filter test xs)) ≡ false
+  repeats_kept_by [] h = refl
+  repeats_kept_by (x ∷ xs) h =
       let (here, later) = or_parts (any (eqb (g x)) (map g xs)) (repeats (map g xs)) h in
-      let rest = repeats-kept-by xs later in
-      cond_both (test x) _ _ (λ ys. repeats (map g ys) ≡ false) (λ _. or_from _ _ (any-kept-by (eqb (g x)) xs here) rest) (λ _. rest)
+      let rest = repeats_kept_by xs later in
+      cond_both (test x) _ _ (λ ys. repeats (map g ys) ≡ false) (λ _. or_from _ _ (any_kept_by (eqb (g x)) xs here) rest) (λ _. rest)
 
-  pub apart-kept-by : (xs : List X) → Apart (map g xs) → Apart (map g (filter test xs))
-  apart-kept-by xs apart = repeats_false (map g (filter test xs)) (repeats-kept-by xs (repeats_apart (map g xs) apart))
+  pub apart_kept_by : (xs : List X) → Apart (map g xs) → Apart (map g (filter test xs))
+  apart_kept_by xs apart = repeats_false (map g (filter test xs)) (repeats_kept_by xs (repeats_apart (map g xs) apart))

@@ -46,16 +46,16 @@ module _ (m n : ℕ) (more : m ≤ n) where
   wider : (g : ℕ) → Spotted m g → Spotted n g
   wider g h = (h.0, λ i on. let low = h.1 i on in omega arith)
 
-  wider-term : (t : Term) → KeptTerm m t → KeptTerm n t
-  wider-term t h = (h.0, h.1, wider t.group h.2)
+  wider_term : (t : Term) → KeptTerm m t → KeptTerm n t
+  wider_term t h = (h.0, h.1, wider t.group h.2)
 
-  wider-rule : (number : ℕ) (r : LiveRule) → KeptRule m number r → KeptRule n number r
-  wider-rule number r h =
+  wider_rule : (number : ℕ) (r : LiveRule) → KeptRule m number r → KeptRule n number r
+  wider_rule number r h =
       let ts = h.3 in
-      (h.0, h.1, h.2, (ts.0, ts.1, λ k l. wider-term (get_or r.terms k no_term) (ts.2 k l), ts.3, ts.4))
+      (h.0, h.1, h.2, (ts.0, ts.1, λ k l. wider_term (get_or r.terms k no_term) (ts.2 k l), ts.3, ts.4))
 
-  wider-prices : (ps : List Price) → KeptPrices m ps → KeptPrices n ps
-  wider-prices ps h = (h.0, λ k l. let p = h.1 k l in (p.0, p.1, wider (get_or ps k no_price).group p.2, p.3), h.2)
+  wider_prices : (ps : List Price) → KeptPrices m ps → KeptPrices n ps
+  wider_prices ps h = (h.0, λ k l. let p = h.1 k l in (p.0, p.1, wider (get_or ps k no_price).group p.2, p.3), h.2)
 
 kept_declared : (l : Ledger) (house : ℕ) → FitDeclare l house → Kept l → Kept (declared l house)
 kept_declared l house fit kept =
@@ -65,7 +65,7 @@ kept_declared l house fit kept =
     let longer = length_push l.contents.houses house in
     let apart = apart_push l.contents.houses house fit.fresh houses.1 in
     let more : m ≤ n = omega arith in (
-      ((omega arith, apart), λ k r e. wider-rule m n more k r (rules k r e), wider-prices m n more l.contents.prices prices),
+      ((omega arith, apart), λ k r e. wider_rule m n more k r (rules k r e), wider_prices m n more l.contents.prices prices),
       kept.1,
     )
 
@@ -105,8 +105,8 @@ abbrev ruled : Posting → Relation → LiveRule
 ruled p q = record { relation = q; bound = p.bound; terms = p.terms }
 
 module _ (l : Ledger) (p : Posting) (fit : FitPost l p) where
-  kept-term : (k : ℕ) → k < length p.terms → KeptTerm (spots l) (get_or p.terms k no_term)
-  kept-term k h =
+  kept_term : (k : ℕ) → k < length p.terms → KeptTerm (spots l) (get_or p.terms k no_term)
+  kept_term k h =
       let t = get_or p.terms k no_term in
       let on = any_false (λ t. beyond (spots l) t.group) p.terms fit.on_sheet k no_term h in
       let spot = eqb-false t.group 0 (any_false blank p.terms fit.spotted k no_term h) in
@@ -120,10 +120,10 @@ module _ (l : Ledger) (p : Posting) (fit : FitPost l p) where
       let same : ruled p q ≡ r = cc in
       let apart = repeats_false (map group_of p.terms) fit.apart in
       subst (KeptRule (spots l) p.number) same
-      (fit.numbered, relation_small q, fit.bounded, (some_terms p.terms fit.some, fit.short, kept-term, apart, fit.few))
+      (fit.numbered, relation_small q, fit.bounded, (some_terms p.terms fit.some, fit.short, kept_term, apart, fit.few))
 
-  kept-posted : Kept l → Kept (posted l p)
-  kept-posted kept =
+  kept_posted : Kept l → Kept (posted l p)
+  kept_posted kept =
       let (houses, rules, prices) = kept.0 in
       let after = rules_put (spots l) p.number l.contents.rules (rule_of p) rules (kept_rule (relation_of p.relation)) in
       ((houses, after, prices), length_taken (length p.terms) l.places fit.room ∙ kept.1)
@@ -135,7 +135,7 @@ kept_withdrawn l number kept =
 
 kept_done : (l : Ledger) (c : Call) → refusal l c ≡ None → Kept l → Kept (done l c)
 kept_done l (Declares house) e k = kept_declared l house (fit_declare l house e) k
-kept_done l (Posts p) e k = kept-posted l p (fit_post l p e) k
+kept_done l (Posts p) e k = kept_posted l p (fit_post l p e) k
 kept_done l (Prices amount group) e k = ((k.0.0, k.0.1, kept_amount l amount group k.0.2 (fit_price l amount group e)), k.1)
 kept_done l (Withdraws number) e k = kept_withdrawn l number k
 kept_done l Locks e k = k

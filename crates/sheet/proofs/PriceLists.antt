@@ -24,13 +24,13 @@ eqb_comm a b = grind (arith, nat_tests)
 
 module _ {X : Type 0} (f : X → Bool) where
   -- the element at the place passes, or one of the others does
-  any-removed : (xs : List X) (k : ℕ) (d : X) → k < length xs → any f xs ≡ (f (get_or xs k d) || any f (remove xs k))
-  any-removed [] k d l = absurd (omega arith)
-  any-removed (x ∷ xs) zero d l = refl
-  any-removed (x ∷ xs) (suc k) d l = rw (any-removed xs k d (omega arith)) (grind arith)
+  any_removed : (xs : List X) (k : ℕ) (d : X) → k < length xs → any f xs ≡ (f (get_or xs k d) || any f (remove xs k))
+  any_removed [] k d l = absurd (omega arith)
+  any_removed (x ∷ xs) zero d l = refl
+  any_removed (x ∷ xs) (suc k) d l = rw (any_removed xs k d (omega arith)) (grind arith)
 
   any_at : (xs : List X) (k : ℕ) (d : X) → k < length xs → f (get_or xs k d) ≡ true → any f xs ≡ true
-  any_at xs k d l h = any-removed xs k d l ∙ or_left (f (get_or xs k d)) (any f (remove xs k)) h
+  any_at xs k d l h = any_removed xs k d l ∙ or_left (f (get_or xs k d)) (any f (remove xs k)) h
 
   -- a search found a place whose element passes, or there is none
   pub any_some : (xs : List X) (d : X) (r : Option ℕ) → MatchOption r (any f xs ≡ false) (λ k. (k < length xs) × (f (get_or xs k d) ≡ true))
@@ -38,28 +38,28 @@ module _ {X : Type 0} (f : X → Bool) where
   any_some xs d None h = sym h
   any_some xs d (Some k) h = sym (any_at xs k d h.0 h.1)
 
-  kept-none : (xs : List X) → any f xs ≡ false → filter (λ x. not (f x)) xs ≡ xs
-  kept-none [] none = refl
-  kept-none (x ∷ xs) none = let (here, later) = or_parts (f x) (any f xs) none in simp (here, kept-none xs later)
+  kept_none : (xs : List X) → any f xs ≡ false → filter (λ x. not (f x)) xs ≡ xs
+  kept_none [] none = refl
+  kept_none (x ∷ xs) none = let (here, later) = or_parts (f x) (any f xs) none in simp (here, kept_none xs later)
 
-  map-none : (q : X) (xs : List X) → any f xs ≡ false → map (λ x. cond (f x) q x) xs ≡ xs
-  map-none q [] none = refl
-  map-none q (x ∷ xs) none = let (here, later) = or_parts (f x) (any f xs) none in simp (here, map-none q xs later)
+  map_none : (q : X) (xs : List X) → any f xs ≡ false → map (λ x. cond (f x) q x) xs ≡ xs
+  map_none q [] none = refl
+  map_none q (x ∷ xs) none = let (here, later) = or_parts (f x) (any f xs) none in simp (here, map_none q xs later)
 
   -- no element but the one at the place passes
-  kept-lone : (xs : List X) (k : ℕ) (d : X) → k < length xs → f (get_or xs k d) ≡ true → any f (remove xs k) ≡ false
+  kept_lone : (xs : List X) (k : ℕ) (d : X) → k < length xs → f (get_or xs k d) ≡ true → any f (remove xs k) ≡ false
       → filter (λ x. not (f x)) xs ≡ remove xs k
-  kept-lone [] k d l h none = absurd (omega arith)
-  kept-lone (x ∷ xs) zero d l h none = simp (h, kept-none xs none)
-  kept-lone (x ∷ xs) (suc k) d l h none =
-      let (here, later) = or_parts (f x) (any f (remove xs k)) none in simp (here, kept-lone xs k d (omega arith) h later)
+  kept_lone [] k d l h none = absurd (omega arith)
+  kept_lone (x ∷ xs) zero d l h none = simp (h, kept_none xs none)
+  kept_lone (x ∷ xs) (suc k) d l h none =
+      let (here, later) = or_parts (f x) (any f (remove xs k)) none in simp (here, kept_lone xs k d (omega arith) h later)
 
-  map-lone : (q : X) (xs : List X) (k : ℕ) (d : X) → k < length xs → f (get_or xs k d) ≡ true → any f (remove xs k) ≡ false
+  map_lone : (q : X) (xs : List X) (k : ℕ) (d : X) → k < length xs → f (get_or xs k d) ≡ true → any f (remove xs k) ≡ false
       → map (λ x. cond (f x) q x) xs ≡ set xs k q
-  map-lone q [] k d l h none = absurd (omega arith)
-  map-lone q (x ∷ xs) zero d l h none = simp (h, map-none q xs none)
-  map-lone q (x ∷ xs) (suc k) d l h none =
-      let (here, later) = or_parts (f x) (any f (remove xs k)) none in simp (here, map-lone q xs k d (omega arith) h later)
+  map_lone q [] k d l h none = absurd (omega arith)
+  map_lone q (x ∷ xs) zero d l h none = simp (h, map_none q xs none)
+  map_lone q (x ∷ xs) (suc k) d l h none =
+      let (here, later) = or_parts (f x) (any f (remove xs k)) none in simp (here, map_lone q xs k d (omega arith) h later)
 
 -- ---- Prices whose groups are apart
 
@@ -72,7 +72,7 @@ any_group g ps = any_map (eqb g) price_group ps ∙ ap (λ f. any f ps) (fun_ext
 any_group_removed : (f : ℕ → Bool) (ps : List Price) (k : ℕ) → k < length ps
     → any f (map price_group ps) ≡ (f (get_or ps k no_price).group || any f (map price_group (remove ps k)))
 any_group_removed f ps k l =
-    rw (any_map f price_group ps, any_map f price_group (remove ps k)) (any-removed (λ p. f p.group) ps k no_price l)
+    rw (any_map f price_group ps, any_map f price_group (remove ps k)) (any_removed (λ p. f p.group) ps k no_price l)
 
 -- a group stands twice if the one at a place does, or one of the others
 repeats_removed : (ps : List Price) (k : ℕ) → k < length ps
@@ -84,15 +84,15 @@ repeats_removed (p ∷ ps) (suc k) l =
     rw (any_group_removed (eqb p.group) ps k within, repeats_removed ps k within) (grind arith)
 
 module _ (ps : List Price) (k : ℕ) (l : k < length ps) (apart : Apart ps) where
-  apart-removed : Apart (remove ps k)
-  apart-removed = (or_parts _ _ (sym (repeats_removed ps k l) ∙ apart)).1
+  apart_removed : Apart (remove ps k)
+  apart_removed = (or_parts _ _ (sym (repeats_removed ps k l) ∙ apart)).1
 
   others : (g : ℕ) → is_for g (get_or ps k no_price) ≡ true → any (is_for g) (remove ps k) ≡ false
   others g h = rw (← eqb-true (get_or ps k no_price).group g h) (or_parts _ _ (sym (repeats_removed ps k l) ∙ apart)).0
 
   -- a price of the same group at the place
-  apart-set : (p : Price) → is_for p.group (get_or ps k no_price) ≡ true → Apart (set ps k p)
-  apart-set p own =
+  apart_set : (p : Price) → is_for p.group (get_or ps k no_price) ≡ true → Apart (set ps k p)
+  apart_set p own =
       let gs = map price_group ps in
       let same : get_or gs k 0 ≡ p.group = get_or-map price_group ps k no_price 0 l ∙ eqb-true (get_or ps k no_price).group p.group own in
       ap repeats (map-set price_group ps k p ∙ ap (set gs k) (sym same) ∙ set-get_or gs k 0) ∙ apart
@@ -108,17 +108,17 @@ apart_push ps p fresh apart =
 -- ---- What setting an amount makes of a list of prices
 
 module _ (ps : List Price) (amount : ℤ) (group : ℕ) where
-  pub nothing-dropped : any (is_for group) ps ≡ false → is_zero amount ≡ true → ps ≡ with_amount ps amount group
-  nothing-dropped fresh zero' = rw zero' (sym (kept-none (is_for group) ps fresh))
+  pub nothing_dropped : any (is_for group) ps ≡ false → is_zero amount ≡ true → ps ≡ with_amount ps amount group
+  nothing_dropped fresh zero' = rw zero' (sym (kept_none (is_for group) ps fresh))
 
   module _ (k : ℕ) (l : k < length ps) (own : is_for group (get_or ps k no_price) ≡ true) (apart : Apart ps) where
     pub entry-dropped : is_zero amount ≡ true → remove ps k ≡ with_amount ps amount group
-    entry-dropped zero' = rw zero' (sym (kept-lone (is_for group) ps k no_price l own (others ps k l apart group own)))
+    entry-dropped zero' = rw zero' (sym (kept_lone (is_for group) ps k no_price l own (others ps k l apart group own)))
 
     pub entry-changed : is_zero amount ≡ false → set ps k (price_of amount group) ≡ with_amount ps amount group
     entry-changed some =
         rw (some, any_at (is_for group) ps k no_price l own)
-        (sym (map-lone (is_for group) (price_of amount group) ps k no_price l own (others ps k l apart group own)))
+        (sym (map_lone (is_for group) (price_of amount group) ps k no_price l own (others ps k l apart group own)))
 
 -- ---- The prices of a price list after a write to its table
 
@@ -138,13 +138,13 @@ module _ (l : PriceList) (p : Price) where
     written_over = take-set-lt l.count l.entries k p (omega (arith, length_prices l))
 
     pub apart-over : is_for p.group (get_or (prices_of l) k no_price) ≡ true → Apart (take l.count (set l.entries k p))
-    apart-over own = rw written_over (apart-set (prices_of l) k listed l.apart p own)
+    apart-over own = rw written_over (apart_set (prices_of l) k listed l.apart p own)
 
 -- the part of the table from the place to the last price, turned left by one, has the price of the place last
 module _ (l : PriceList) (k : ℕ) (listed : k < length (prices_of l)) (ys : List Price)
     (turned : ys ≡ drop 1 (between k l.count l.entries) ++ take 1 (between k l.count l.entries)) where
-  pub turned-out : take (l.count - 1) (put_mid k (l.count - k) l.entries ys) ≡ remove (prices_of l) k
-  turned-out =
+  pub turned_out : take (l.count - 1) (put_mid k (l.count - k) l.entries ys) ≡ remove (prices_of l) k
+  turned_out =
       let n = l.count in
       let xs = l.entries in
       let part = between k n xs in
@@ -157,4 +157,4 @@ module _ (l : PriceList) (k : ℕ) (listed : k < length (prices_of l)) (ys : Lis
       (take_at (take k xs ++ drop 1 part) (take 1 part ++ rest) (n - 1) size ∙ left)
 
   pub apart_out : Apart (take (l.count - 1) (put_mid k (l.count - k) l.entries ys))
-  apart_out = rw turned-out (apart-removed (prices_of l) k listed l.apart)
+  apart_out = rw turned_out (apart_removed (prices_of l) k listed l.apart)

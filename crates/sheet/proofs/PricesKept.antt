@@ -16,7 +16,7 @@ use Rattle.sheet.specs.Limits.{most_prices}
 use Rattle.sheet.specs.Layout.{price_group, no_price}
 use Rattle.sheet.specs.Kept.{Apart, KeptPrice, KeptPrices}
 use Rattle.sheet.proofs.Accepted.{FitPrice}
-use Rattle.sheet.proofs.Apart.{apart_push, apart-kept-by}
+use Rattle.sheet.proofs.Apart.{apart_push, apart_kept_by}
 
 -- the new price in place of the old one of its group, and any other price as it is
 abbrev changed : Price → Price → Price
@@ -41,10 +41,10 @@ module _ (n : ℕ) (ps : List Price) (old : KeptPrices n ps) where
   each : All (KeptPrice n) ps
   each = All-from_get_or (KeptPrice n) ps no_price old.1
 
-  kept-filtered : (test : Price → Bool) → KeptPrices n (filter test ps)
-  kept-filtered test =
+  kept_filtered : (test : Price → Bool) → KeptPrices n (filter test ps)
+  kept_filtered test =
       kept_list n (filter test ps) (omega (arith, length-filter test ps, count_by-le-length test ps))
-      (all_kept_by test (KeptPrice n) ps each) (apart-kept-by price_group test ps old.2)
+      (all_kept_by test (KeptPrice n) ps each) (apart_kept_by price_group test ps old.2)
 
   module _ (new : Price) (kept : KeptPrice n new) where
     each-changed : All (λ p. KeptPrice n (changed new p)) ps
@@ -78,5 +78,5 @@ pub kept_amount : (l : Ledger) (amount : ℤ) (group : ℕ) → KeptPrices (spot
     → KeptPrices (spots l) (with_amount l.contents.prices amount group)
 kept_amount l amount group old fit =
     let ps = l.contents.prices in
-    cond_both (is_zero amount) _ _ (KeptPrices (spots l)) (λ _. kept-filtered (spots l) ps old (λ p. not (is_for group p)))
+    cond_both (is_zero amount) _ _ (KeptPrices (spots l)) (λ _. kept_filtered (spots l) ps old (λ p. not (is_for group p)))
     (λ some. kept_set (spots l) ps old (price_of amount group) (kept_new l amount group fit some) (λ fresh. grind (arith, nat_tests)))

@@ -29,10 +29,10 @@ module _ {B S C A : Type 0} (call : B → C) (next : S → C → S) (answer : S 
   Replayed s now' old bs i =
       (s ≡ fold next start (map call (take i bs))) × (now' ≡ noted old (answers next answer start (map call (take i bs))))
 
-  pub replayed-more : (s t : S) (now' old : List A) (bs : List B) (i : ℕ) (d : B) (a : A) → i < length bs
+  pub replayed_more : (s t : S) (now' old : List A) (bs : List B) (i : ℕ) (d : B) (a : A) → i < length bs
       → Replayed s now' old bs i → t ≡ next s (call (get_or bs i d)) → a ≡ answer s (call (get_or bs i d))
       → Replayed t (set now' i a) old bs (i + 1)
-  replayed-more s t now' old bs i d a within (told, answered) et ea =
+  replayed_more s t now' old bs i d a within (told, answered) et ea =
       let cs = map call (take i bs) in
       let c = call (get_or bs i d) in
       let more : map call (take (i + 1) bs) ≡ cs ++ c ∷ [] = map_more call bs i d within in
@@ -44,9 +44,9 @@ module _ {B S C A : Type 0} (call : B → C) (next : S → C → S) (answer : S 
             ∙ ap (noted old) (sym (ap (answers next answer start) more ∙ answers_push next answer start cs c)),
       )
 
-  pub replayed-all : (s : S) (now' old : List A) (bs : List B) (i : ℕ) → length bs ≤ i → Replayed s now' old bs i
+  pub replayed_all : (s : S) (now' old : List A) (bs : List B) (i : ℕ) → length bs ≤ i → Replayed s now' old bs i
       → (s ≡ fold next start (map call bs)) × (now' ≡ noted old (answers next answer start (map call bs)))
-  replayed-all s now' old bs i past (told, answered) =
+  replayed_all s now' old bs i past (told, answered) =
       let whole = take_all i bs past in
       (told ∙ ap (λ h. fold next start (map call h)) whole, answered ∙ ap (λ h. noted old (answers next answer start (map call h))) whole)
 

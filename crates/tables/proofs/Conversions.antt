@@ -14,28 +14,28 @@ use Rattle.tables.proofs.Totals.{total_same, total_none, total_append, total_app
 -- ---- Groups with and without one more spot, the highest
 
 module _ (k h g : ℕ) (below-h : h < 2 ^ k) (below-g : g < 2 ^ k) where
-  and-upper : bit_and h (2 ^ k + g) ≡ bit_and h g
-  and-upper = grind (arith, one-mul (2 ^ k), zero-mul (2 ^ k), and_zero_l 1, and_block k 0 1 h g below-h below-g)
+  and_upper : bit_and h (2 ^ k + g) ≡ bit_and h g
+  and_upper = grind (arith, one-mul (2 ^ k), zero-mul (2 ^ k), and_zero_l 1, and_block k 0 1 h g below-h below-g)
 
   and_both : bit_and (2 ^ k + h) (2 ^ k + g) ≡ 2 ^ k + bit_and h g
   and_both = grind (arith, one-mul (2 ^ k), and_block k 1 1 h g below-h below-g)
 
-  xor-upper : size (bit_xor h (2 ^ k + g)) ≡ suc (size (bit_xor h g))
-  xor-upper =
+  xor_upper : size (bit_xor h (2 ^ k + g)) ≡ suc (size (bit_xor h g))
+  xor_upper =
       let apart : bit_xor h (2 ^ k + g) ≡ 1 * 2 ^ k + bit_xor h g = grind (arith, one-mul (2 ^ k), zero-mul (2 ^ k), xor_block k 0 1 h g below-h below-g) in
       ap ones apart ∙ omega (arith, ones_cat k 1 (bit_xor h g) (xor_lt k h g below-h below-g), ones-ones 1)
 
-  xor-both : bit_xor (2 ^ k + h) (2 ^ k + g) ≡ bit_xor h g
-  xor-both = grind (arith, one-mul (2 ^ k), xor_block k 1 1 h g below-h below-g)
+  xor_both : bit_xor (2 ^ k + h) (2 ^ k + g) ≡ bit_xor h g
+  xor_both = grind (arith, one-mul (2 ^ k), xor_block k 1 1 h g below-h below-g)
 
-  inside-upper : inside h (2 ^ k + g) ≡ inside h g
-  inside-upper = ap (λ a. eqb a h) and-upper
+  inside_upper : inside h (2 ^ k + g) ≡ inside h g
+  inside_upper = ap (λ a. eqb a h) and_upper
 
   inside_both : inside (2 ^ k + h) (2 ^ k + g) ≡ inside h g
   inside_both = grind (arith, nat_tests, and_both)
 
-  not-inside : inside (2 ^ k + h) g ≡ false
-  not-inside = grind (arith, nat_tests, and_le_r (2 ^ k + h) g)
+  not_inside : inside (2 ^ k + h) g ≡ false
+  not_inside = grind (arith, nat_tests, and_le_r (2 ^ k + h) g)
 
 -- ---- One entry
 
@@ -81,38 +81,38 @@ cond_zero_applied o false a = sym (nothing_applied o)
 
 -- the parts of the entry at g, of the lower half and of the upper half, with and without one more spot
 module _ (o : Operation) (f : ℕ → ℤ) (k h g : ℕ) (below-h : h < 2 ^ k) (below-g : g < 2 ^ k) where
-  part-upper : part o f (2 ^ k + g) h ≡ applied o (pos 0) (part o f g h)
+  part_upper : part o f (2 ^ k + g) h ≡ applied o (pos 0) (part o f g h)
   unfolding part
-  part-upper =
-      ap₂ (λ t n. cond t (turned o n (f h)) (pos 0)) (inside-upper k h g below-h below-g) (xor-upper k h g below-h below-g)
+  part_upper =
+      ap₂ (λ t n. cond t (turned o n (f h)) (pos 0)) (inside_upper k h g below-h below-g) (xor_upper k h g below-h below-g)
       ∙ cond_zero_applied o (inside h g) (turned o (size (bit_xor h g)) (f h))
 
-  part-both : part o f (2 ^ k + g) (2 ^ k + h) ≡ part o (λ j. f (2 ^ k + j)) g h
+  part_both : part o f (2 ^ k + g) (2 ^ k + h) ≡ part o (λ j. f (2 ^ k + j)) g h
   unfolding part
-  part-both =
-      ap₂ (λ t n. cond t (turned o (size n) (f (2 ^ k + h))) (pos 0)) (inside_both k h g below-h below-g) (xor-both k h g below-h below-g)
+  part_both =
+      ap₂ (λ t n. cond t (turned o (size n) (f (2 ^ k + h))) (pos 0)) (inside_both k h g below-h below-g) (xor_both k h g below-h below-g)
 
   part_none : part o f g (2 ^ k + h) ≡ pos 0
   unfolding part
-  part_none = ap (λ t. cond t (turned o (size (bit_xor (2 ^ k + h) g)) (f (2 ^ k + h))) (pos 0)) (not-inside k h g below-h below-g)
+  part_none = ap (λ t. cond t (turned o (size (bit_xor (2 ^ k + h) g)) (f (2 ^ k + h))) (pos 0)) (not_inside k h g below-h below-g)
 
 module _ (o : Operation) (f : ℕ → ℤ) (k g : ℕ) (below : g < 2 ^ k) where
   -- an entry of the lower half does not look at the upper half
-  pub entry-lower : entry o (2 ^ k + 2 ^ k) f g ≡ entry o (2 ^ k) f g
+  pub entry_lower : entry o (2 ^ k + 2 ^ k) f g ≡ entry o (2 ^ k) f g
   unfolding entry
-  entry-lower =
+  entry_lower =
       total_append (2 ^ k) (2 ^ k) (part o f g)
       ∙ ap (λ z. total (2 ^ k) (part o f g) +ℤ z) (total_none (2 ^ k) (λ h. part o f g (2 ^ k + h)) (λ h l. part_none o f k h g l below))
       ∙ +ℤ_idr (total (2 ^ k) (part o f g))
 
   -- an entry of the upper half is that of the upper half alone joined with that of the lower half at the same place
-  pub entry-upper : entry o (2 ^ k + 2 ^ k) f (2 ^ k + g) ≡ applied o (entry o (2 ^ k) (λ h. f (2 ^ k + h)) g) (entry o (2 ^ k) f g)
+  pub entry_upper : entry o (2 ^ k + 2 ^ k) f (2 ^ k + g) ≡ applied o (entry o (2 ^ k) (λ h. f (2 ^ k + h)) g) (entry o (2 ^ k) f g)
   unfolding entry
-  entry-upper =
+  entry_upper =
       total_append (2 ^ k) (2 ^ k) (part o f (2 ^ k + g))
       ∙ ap₂ ◌+ℤ◌
-      (total_same (2 ^ k) (part o f (2 ^ k + g)) (λ h. applied o (pos 0) (part o f g h)) (λ h l. part-upper o f k h g l below))
-      (total_same (2 ^ k) (λ h. part o f (2 ^ k + g) (2 ^ k + h)) (part o (λ j. f (2 ^ k + j)) g) (λ h l. part-both o f k h g l below))
+      (total_same (2 ^ k) (part o f (2 ^ k + g)) (λ h. applied o (pos 0) (part o f g h)) (λ h l. part_upper o f k h g l below))
+      (total_same (2 ^ k) (λ h. part o f (2 ^ k + g) (2 ^ k + h)) (part o (λ j. f (2 ^ k + j)) g) (λ h l. part_both o f k h g l below))
       ∙ ap (λ z. z +ℤ total (2 ^ k) (part o (λ j. f (2 ^ k + j)) g)) (total_zero_applied o (2 ^ k) (part o f g))
       ∙ added_applied o (total (2 ^ k) (part o f g)) (total (2 ^ k) (part o (λ j. f (2 ^ k + j)) g))
 
@@ -175,36 +175,36 @@ module _ (o : Operation) (k : ℕ) (restored : Restored o (2 ^ k)) (f : ℕ → 
   whole : ℕ → ℤ
   whole = entry o (2 ^ k + 2 ^ k) f
 
-  lower-half : (g : ℕ) → g < 2 ^ k → entry (opposite o) (2 ^ k) whole g ≡ f g
+  lower_half : (g : ℕ) → g < 2 ^ k → entry (opposite o) (2 ^ k) whole g ≡ f g
   unfolding whole
-  lower-half g l = entry_same (opposite o) (2 ^ k) whole (entry o (2 ^ k) f) g (λ h m. entry-lower o f k h m) ∙ restored f g l
+  lower_half g l = entry_same (opposite o) (2 ^ k) whole (entry o (2 ^ k) f) g (λ h m. entry_lower o f k h m) ∙ restored f g l
 
-  upper-half : (g : ℕ) → g < 2 ^ k → entry (opposite o) (2 ^ k) (λ h. whole (2 ^ k + h)) g ≡ applied o (f (2 ^ k + g)) (f g)
+  upper_half : (g : ℕ) → g < 2 ^ k → entry (opposite o) (2 ^ k) (λ h. whole (2 ^ k + h)) g ≡ applied o (f (2 ^ k + g)) (f g)
   unfolding whole
-  upper-half g l =
+  upper_half g l =
       let above : ℕ → ℤ = λ h. f (2 ^ k + h) in
       entry_same (opposite o) (2 ^ k) (λ h. whole (2 ^ k + h)) (λ h. applied o (entry o (2 ^ k) above h) (entry o (2 ^ k) f h)) g
-      (λ h m. entry-upper o f k h m)
+      (λ h m. entry_upper o f k h m)
       ∙ entry_applied (opposite o) o (2 ^ k) (entry o (2 ^ k) above) (entry o (2 ^ k) f) g
       ∙ ap₂ (applied o) (restored above g l) (restored f g l)
 
-  back-lower : (g : ℕ) → g < 2 ^ k → entry (opposite o) (2 ^ k + 2 ^ k) whole g ≡ f g
-  back-lower g l = entry-lower (opposite o) whole k g l ∙ lower-half g l
+  back_lower : (g : ℕ) → g < 2 ^ k → entry (opposite o) (2 ^ k + 2 ^ k) whole g ≡ f g
+  back_lower g l = entry_lower (opposite o) whole k g l ∙ lower_half g l
 
-  back-upper : (g : ℕ) → g < 2 ^ k → entry (opposite o) (2 ^ k + 2 ^ k) whole (2 ^ k + g) ≡ f (2 ^ k + g)
-  back-upper g l =
-      entry-upper (opposite o) whole k g l
-      ∙ ap₂ (applied (opposite o)) (upper-half g l) (lower-half g l)
+  back_upper : (g : ℕ) → g < 2 ^ k → entry (opposite o) (2 ^ k + 2 ^ k) whole (2 ^ k + g) ≡ f (2 ^ k + g)
+  back_upper g l =
+      entry_upper (opposite o) whole k g l
+      ∙ ap₂ (applied (opposite o)) (upper_half g l) (lower_half g l)
       ∙ undone o (f (2 ^ k + g)) (f g)
 
-  back-again : (g : ℕ) → g < 2 ^ k + 2 ^ k → entry (opposite o) (2 ^ k + 2 ^ k) whole g ≡ f g
-  back-again g l =
-      ⊎_elim (back-lower g)
-      (λ m. let e : 2 ^ k + (g - 2 ^ k) ≡ g = omega arith in subst (λ j. entry (opposite o) (2 ^ k + 2 ^ k) whole j ≡ f j) e (back-upper (g - 2 ^ k) (omega arith)))
+  back_again : (g : ℕ) → g < 2 ^ k + 2 ^ k → entry (opposite o) (2 ^ k + 2 ^ k) whole g ≡ f g
+  back_again g l =
+      ⊎_elim (back_lower g)
+      (λ m. let e : 2 ^ k + (g - 2 ^ k) ≡ g = omega arith in subst (λ j. entry (opposite o) (2 ^ k + 2 ^ k) whole j ≡ f j) e (back_upper (g - 2 ^ k) (omega arith)))
       (cases_lt g (2 ^ k))
 
 pub entry_back : (o : Operation) (k : ℕ) → Restored o (2 ^ k)
 unfolding whole
 entry_back o zero f zero l = entry_single (opposite o) (entry o 1 f) ∙ entry_single o f
 entry_back o zero f (suc g) l = absurd (omega arith)
-entry_back o (suc k) f g l = subst (Restored o) (sym (double k)) (back-again o k (entry_back o k)) f g l
+entry_back o (suc k) f g l = subst (Restored o) (sym (double k)) (back_again o k (entry_back o k)) f g l

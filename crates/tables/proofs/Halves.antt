@@ -9,7 +9,7 @@ use Rattle.tables.specs.Conversion.{joined}
 use Rattle.tables.specs.Limits.{most_entry, most_table_spots}
 use Rattle.tables.specs.Tables.{Operation, applied, tabulated, converted, table_refusal}
 use Rattle.tables.proofs.Accepted.{accepted, small_entries, over_spots}
-use Rattle.tables.proofs.Conversions.{entry, entry-lower, entry-upper, entry_same, entry_single}
+use Rattle.tables.proofs.Conversions.{entry, entry_lower, entry_upper, entry_same, entry_single}
 use Rattle.tables.proofs.Entries.{tabulated_from, tabulated_same, length_converted, get_or_converted, converted_entries, converted_near}
 
 -- a table after its lower half, which now holds ys, was lent; the upper half, as it is lent then; and the table after that half, which now
@@ -24,14 +24,14 @@ abbrev with_both : {X : Type 0} → ℕ → List X → List X → List X → Lis
 with_both half xs ys zs = put_mid half (length (with_lower half xs ys) - half) (with_lower half xs ys) zs
 
 module _ {X : Type 0} (half : ℕ) (xs ys : List X) (as_long : length ys ≡ half) where
-  with-lower-is : with_lower half xs ys ≡ ys ++ drop half xs
-  with-lower-is = let e : half - 0 ≡ half = omega arith in ap (λ n. ys ++ drop n xs) e
+  with_lower_is : with_lower half xs ys ≡ ys ++ drop half xs
+  with_lower_is = let e : half - 0 ≡ half = omega arith in ap (λ n. ys ++ drop n xs) e
 
-  upper-lent-is : upper_lent half xs ys ≡ drop half xs
-  upper-lent-is = take_rest (with_lower half xs ys) half ∙ ap (drop half) with-lower-is ∙ drop_at ys (drop half xs) half as_long
+  upper_lent_is : upper_lent half xs ys ≡ drop half xs
+  upper_lent_is = take_rest (with_lower half xs ys) half ∙ ap (drop half) with_lower_is ∙ drop_at ys (drop half xs) half as_long
 
-  with-both-is : (zs : List X) → with_both half xs ys zs ≡ ys ++ zs
-  with-both-is zs =
+  with_both_is : (zs : List X) → with_both half xs ys zs ≡ ys ++ zs
+  with_both_is zs =
       let was = with_lower half xs ys in
       let none : drop (length was - half) (drop half was) ≡ [] = drop_all (length was - half) (drop half was) (omega (arith, length-drop half was)) in
       ap₂ (λ a b. a ++ (zs ++ b)) (take_at ys (post_of 0 (half - 0) xs) half as_long) none ∙ ap (λ l. ys ++ l) (append-nil zs)
@@ -50,52 +50,52 @@ module _ (o : Operation) (k : ℕ) (xs : List ℤ) (long : length xs ≡ 2 ^ k +
   given : ℕ → ℤ
   given h = get_or xs h (pos 0)
 
-  length-lower : length (take (2 ^ k) xs) ≡ 2 ^ k
-  length-lower = omega (arith, length-take (2 ^ k) xs)
+  length_lower : length (take (2 ^ k) xs) ≡ 2 ^ k
+  length_lower = omega (arith, length-take (2 ^ k) xs)
 
-  length-upper : length (drop (2 ^ k) xs) ≡ 2 ^ k
-  length-upper = omega (arith, length-drop (2 ^ k) xs)
+  length_upper : length (drop (2 ^ k) xs) ≡ 2 ^ k
+  length_upper = omega (arith, length-drop (2 ^ k) xs)
 
-  length-lower-converted : length (converted o (take (2 ^ k) xs)) ≡ 2 ^ k
-  length-lower-converted = length_converted o (take (2 ^ k) xs) ∙ length-lower
+  length_lower_converted : length (converted o (take (2 ^ k) xs)) ≡ 2 ^ k
+  length_lower_converted = length_converted o (take (2 ^ k) xs) ∙ length_lower
 
-  length-upper-converted : length (converted o (drop (2 ^ k) xs)) ≡ 2 ^ k
-  length-upper-converted = length_converted o (drop (2 ^ k) xs) ∙ length-upper
+  length_upper_converted : length (converted o (drop (2 ^ k) xs)) ≡ 2 ^ k
+  length_upper_converted = length_converted o (drop (2 ^ k) xs) ∙ length_upper
 
-  in-lower : (g : ℕ) → g < 2 ^ k → get_or both g (pos 0) ≡ entry o (2 ^ k) given g
+  in_lower : (g : ℕ) → g < 2 ^ k → get_or both g (pos 0) ≡ entry o (2 ^ k) given g
   unfolding lower upper both given
-  in-lower g l =
-      get_or_append_left lower upper (pos 0) g (omega (arith, length-lower-converted))
-      ∙ get_or_converted o (take (2 ^ k) xs) g (omega (arith, length-lower))
-      ∙ ap (λ n. entry o n (λ h. get_or (take (2 ^ k) xs) h (pos 0)) g) length-lower
+  in_lower g l =
+      get_or_append_left lower upper (pos 0) g (omega (arith, length_lower_converted))
+      ∙ get_or_converted o (take (2 ^ k) xs) g (omega (arith, length_lower))
+      ∙ ap (λ n. entry o n (λ h. get_or (take (2 ^ k) xs) h (pos 0)) g) length_lower
       ∙ entry_same o (2 ^ k) _ given g (λ h m. get_or-take (2 ^ k) xs h (pos 0) m)
 
-  in-upper : (g : ℕ) → g < 2 ^ k → get_or both (2 ^ k + g) (pos 0) ≡ entry o (2 ^ k) (λ h. given (2 ^ k + h)) g
+  in_upper : (g : ℕ) → g < 2 ^ k → get_or both (2 ^ k + g) (pos 0) ≡ entry o (2 ^ k) (λ h. given (2 ^ k + h)) g
   unfolding lower upper both given
-  in-upper g l =
-      ap (λ n. get_or both (n + g) (pos 0)) (sym length-lower-converted)
+  in_upper g l =
+      ap (λ n. get_or both (n + g) (pos 0)) (sym length_lower_converted)
       ∙ get_or-append-add lower upper g (pos 0)
-      ∙ get_or_converted o (drop (2 ^ k) xs) g (omega (arith, length-upper))
-      ∙ ap (λ n. entry o n (λ h. get_or (drop (2 ^ k) xs) h (pos 0)) g) length-upper
+      ∙ get_or_converted o (drop (2 ^ k) xs) g (omega (arith, length_upper))
+      ∙ ap (λ n. entry o n (λ h. get_or (drop (2 ^ k) xs) h (pos 0)) g) length_upper
       ∙ entry_same o (2 ^ k) _ (λ h. given (2 ^ k + h)) g (λ h m. get_or-drop (2 ^ k) xs h (pos 0))
 
   whole : (g : ℕ) → g < 2 ^ k + 2 ^ k → joined o (2 ^ k) both g ≡ entry o (2 ^ k + 2 ^ k) given g
   whole g l =
       ⊎_elim
-      (λ m. cond-true (ltb g (2 ^ k)) _ _ (lt-ltb g (2 ^ k) m) ∙ in-lower g m ∙ sym (entry-lower o given k g m))
+      (λ m. cond-true (ltb g (2 ^ k)) _ _ (lt-ltb g (2 ^ k) m) ∙ in_lower g m ∙ sym (entry_lower o given k g m))
       (λ m.
       let below : g - 2 ^ k < 2 ^ k = omega arith in
       let e : 2 ^ k + (g - 2 ^ k) ≡ g = omega arith in
       cond-false (ltb g (2 ^ k)) _ _ (le-ltb g (2 ^ k) m)
       ∙ ap (λ j. applied o (get_or both j (pos 0)) (get_or both (g - 2 ^ k) (pos 0))) (sym e)
-      ∙ ap₂ (applied o) (in-upper (g - 2 ^ k) below) (in-lower (g - 2 ^ k) below)
-      ∙ sym (entry-upper o given k (g - 2 ^ k) below)
+      ∙ ap₂ (applied o) (in_upper (g - 2 ^ k) below) (in_lower (g - 2 ^ k) below)
+      ∙ sym (entry_upper o given k (g - 2 ^ k) below)
       ∙ ap (entry o (2 ^ k + 2 ^ k) given) e)
       (cases_lt g (2 ^ k))
 
-  pub halves-joined : tabulated (2 ^ k + 2 ^ k) (joined o (2 ^ k) (converted o (take (2 ^ k) xs) ++ converted o (drop (2 ^ k) xs))) ≡ converted o xs
+  pub halves_joined : tabulated (2 ^ k + 2 ^ k) (joined o (2 ^ k) (converted o (take (2 ^ k) xs) ++ converted o (drop (2 ^ k) xs))) ≡ converted o xs
   unfolding lower upper both given
-  halves-joined =
+  halves_joined =
       tabulated_same (2 ^ k + 2 ^ k) _ _ whole
       ∙ ap (λ n. tabulated n (entry o n given)) (sym long)
       ∙ sym (converted_entries o xs)
@@ -137,72 +137,72 @@ module _ (o : Operation) (xs : List ℤ) (taken : table_refusal xs ≡ None) (ma
   near = small_entries xs taken
 
   -- a half is accepted too, and its entries, once they are converted, can be joined
-  half-taken : (ws : List ℤ) → length ws ≡ 2 ^ k → All (λ z. nat_abs z ≤ most_entry) ws → table_refusal ws ≡ None
+  half_taken : (ws : List ℤ) → length ws ≡ 2 ^ k → All (λ z. nat_abs z ≤ most_entry) ws → table_refusal ws ≡ None
   unfolding k
-  half-taken ws long small = accepted ws k small long (let few = less.1 in omega arith)
+  half_taken ws long small = accepted ws k small long (let few = less.1 in omega arith)
 
-  half-near : (ws : List ℤ) → length ws ≡ 2 ^ k → All (λ z. nat_abs z ≤ most_entry) ws → All (λ z. nat_abs z < 2 ^ 62) (converted o ws)
+  half_near : (ws : List ℤ) → length ws ≡ 2 ^ k → All (λ z. nat_abs z ≤ most_entry) ws → All (λ z. nat_abs z < 2 ^ 62) (converted o ws)
   unfolding k
-  half-near ws long small =
+  half_near ws long small =
       let bound : 2 ^ k ≤ 2 ^ most_table_spots = pow_mono (le_of_lt less.1) in
       All-weaker (λ z. nat_abs z ≤ length ws * most_entry) (λ z. nat_abs z < 2 ^ 62) (λ z m. omega arith) (converted o ws)
       (converted_near o most_entry ws small)
 
-  lower-lent-is : take (half - 0) xs ≡ take (2 ^ k) xs
-  lower-lent-is = let e : half - 0 ≡ 2 ^ k = omega (arith, half_is) in ap (λ n. take n xs) e
+  lower_lent_is : take (half - 0) xs ≡ take (2 ^ k) xs
+  lower_lent_is = let e : half - 0 ≡ 2 ^ k = omega (arith, half_is) in ap (λ n. take n xs) e
 
-  lower-near : All (λ z. nat_abs z ≤ most_entry) (take (2 ^ k) xs)
-  lower-near = All-take (λ z. nat_abs z ≤ most_entry) (2 ^ k) xs near
+  lower_near : All (λ z. nat_abs z ≤ most_entry) (take (2 ^ k) xs)
+  lower_near = All-take (λ z. nat_abs z ≤ most_entry) (2 ^ k) xs near
 
-  upper-near : All (λ z. nat_abs z ≤ most_entry) (drop (2 ^ k) xs)
-  upper-near = All-drop (λ z. nat_abs z ≤ most_entry) (2 ^ k) xs near
+  upper_near : All (λ z. nat_abs z ≤ most_entry) (drop (2 ^ k) xs)
+  upper_near = All-drop (λ z. nat_abs z ≤ most_entry) (2 ^ k) xs near
 
-  pub lower-shorter : length (take (length xs / 2 - 0) xs) < length xs
+  pub lower_shorter : length (take (length xs / 2 - 0) xs) < length xs
   unfolding half
-  lower-shorter = omega (arith, ap length lower-lent-is, length-lower o k xs twice, twice, pow_pos k)
+  lower_shorter = omega (arith, ap length lower_lent_is, length_lower o k xs twice, twice, pow_pos k)
 
-  pub lower-taken : table_refusal (take (length xs / 2 - 0) xs) ≡ None
+  pub lower_taken : table_refusal (take (length xs / 2 - 0) xs) ≡ None
   unfolding half
-  lower-taken = ap table_refusal lower-lent-is ∙ half-taken (take (2 ^ k) xs) (length-lower o k xs twice) lower-near
+  lower_taken = ap table_refusal lower_lent_is ∙ half_taken (take (2 ^ k) xs) (length_lower o k xs twice) lower_near
 
   module _ (ys : List ℤ) (first : ys ≡ converted o (take (length xs / 2 - 0) xs)) where
     first-is : ys ≡ converted o (take (2 ^ k) xs)
     unfolding half
-    first-is = first ∙ ap (converted o) lower-lent-is
+    first-is = first ∙ ap (converted o) lower_lent_is
 
     first-long : length ys ≡ half
-    first-long = ap length first-is ∙ length-lower-converted o k xs twice ∙ sym half_is
+    first-long = ap length first-is ∙ length_lower_converted o k xs twice ∙ sym half_is
 
     second_is : upper_lent half xs ys ≡ drop (2 ^ k) xs
-    second_is = upper-lent-is half xs ys first-long ∙ ap (λ n. drop n xs) half_is
+    second_is = upper_lent_is half xs ys first-long ∙ ap (λ n. drop n xs) half_is
 
     pub upper-shorter : length (upper_lent (length xs / 2) xs ys) < length xs
     unfolding half
-    upper-shorter = omega (arith, ap length second_is, length-upper o k xs twice, twice, pow_pos k)
+    upper-shorter = omega (arith, ap length second_is, length_upper o k xs twice, twice, pow_pos k)
 
     pub upper-taken : table_refusal (upper_lent (length xs / 2) xs ys) ≡ None
     unfolding half
-    upper-taken = ap table_refusal second_is ∙ half-taken (drop (2 ^ k) xs) (length-upper o k xs twice) upper-near
+    upper-taken = ap table_refusal second_is ∙ half_taken (drop (2 ^ k) xs) (length_upper o k xs twice) upper_near
 
     module _ (zs : List ℤ) (second : zs ≡ converted o (upper_lent (length xs / 2) xs ys)) where
       both_is : with_both half xs ys zs ≡ converted o (take (2 ^ k) xs) ++ converted o (drop (2 ^ k) xs)
       unfolding half
-      both_is = with-both-is half xs ys first-long zs ∙ ap₂ ◌++◌ first-is (second ∙ ap (converted o) second_is)
+      both_is = with_both_is half xs ys first-long zs ∙ ap₂ ◌++◌ first-is (second ∙ ap (converted o) second_is)
 
       pub both_long : length (with_both (length xs / 2) xs ys zs) ≡ length xs / 2 + length xs / 2
       unfolding half
       both_long =
           let sides = length-append (converted o (take (2 ^ k) xs)) (converted o (drop (2 ^ k) xs)) in
-          ap length both_is ∙ omega (arith, sides, length-lower-converted o k xs twice, length-upper-converted o k xs twice, half_is)
+          ap length both_is ∙ omega (arith, sides, length_lower_converted o k xs twice, length_upper_converted o k xs twice, half_is)
 
       pub both-near : All (λ z. nat_abs z < 2 ^ 62) (with_both (length xs / 2) xs ys zs)
       unfolding half
       both-near =
           subst (All (λ z. nat_abs z < 2 ^ 62)) (sym both_is)
           (All-append (λ z. nat_abs z < 2 ^ 62) (converted o (take (2 ^ k) xs)) (converted o (drop (2 ^ k) xs))
-          (half-near (take (2 ^ k) xs) (length-lower o k xs twice) lower-near)
-          (half-near (drop (2 ^ k) xs) (length-upper o k xs twice) upper-near))
+          (half_near (take (2 ^ k) xs) (length_lower o k xs twice) lower_near)
+          (half_near (drop (2 ^ k) xs) (length_upper o k xs twice) upper_near))
 
       pub whole_is : tabulated (length xs / 2 + length xs / 2) (joined o (length xs / 2) (with_both (length xs / 2) xs ys zs)) ≡ converted o xs
       unfolding half
-      whole_is = ap₂ (λ h ws. tabulated (h + h) (joined o h ws)) half_is both_is ∙ halves-joined o k xs twice
+      whole_is = ap₂ (λ h ws. tabulated (h + h) (joined o h ws)) half_is both_is ∙ halves_joined o k xs twice

@@ -12,13 +12,13 @@ module _ (o : Operation) (k : ℕ) (xs : List ℤ) (long : length xs ≡ 2 ^ k) 
   given : ℕ → ℤ
   given h = get_or xs h (pos 0)
 
-  entry-given : (h : ℕ) → h < 2 ^ k → get_or (converted o xs) h (pos 0) ≡ entry o (2 ^ k) given h
+  entry_given : (h : ℕ) → h < 2 ^ k → get_or (converted o xs) h (pos 0) ≡ entry o (2 ^ k) given h
   unfolding given
-  entry-given h l = get_or_converted o xs h (omega arith) ∙ ap (λ n. entry o n given h) long
+  entry_given h l = get_or_converted o xs h (omega arith) ∙ ap (λ n. entry o n given h) long
 
-  pub converted-back : converted (opposite o) (converted o xs) ≡ xs
+  pub converted_back : converted (opposite o) (converted o xs) ≡ xs
   unfolding given
-  converted-back = ext_get_or (pos 0) _ xs (length_converted (opposite o) (converted o xs) ∙ length_converted o xs) entries
+  converted_back = ext_get_or (pos 0) _ xs (length_converted (opposite o) (converted o xs) ∙ length_converted o xs) entries
     where
       entries : (g : ℕ) → g < length (converted (opposite o) (converted o xs)) → get_or (converted (opposite o) (converted o xs)) g (pos 0) ≡ get_or xs g (pos 0)
       entries g l =
@@ -27,16 +27,16 @@ module _ (o : Operation) (k : ℕ) (xs : List ℤ) (long : length xs ≡ 2 ^ k) 
           let below : g < 2 ^ k = omega arith in
           get_or_converted (opposite o) (converted o xs) g (omega arith)
           ∙ ap (λ n. entry (opposite o) n (λ h. get_or (converted o xs) h (pos 0)) g) (once ∙ long)
-          ∙ entry_same (opposite o) (2 ^ k) _ (entry o (2 ^ k) given) g entry-given
+          ∙ entry_same (opposite o) (2 ^ k) _ (entry o (2 ^ k) given) g entry_given
           ∙ entry_back o k given g below
 
 -- the term table of the values of a term table
 pub coefficients_values : (k : ℕ) (cs : List ℤ) → length cs ≡ 2 ^ k → coefficients (values cs) ≡ cs
-coefficients_values k cs l = ap coefficients (sym (converted_plus cs)) ∙ converted-back plus k cs l
+coefficients_values k cs l = ap coefficients (sym (converted_plus cs)) ∙ converted_back plus k cs l
 
 -- the values of the term table of values
 pub values_coefficients : (k : ℕ) (vs : List ℤ) → length vs ≡ 2 ^ k → values (coefficients vs) ≡ vs
-values_coefficients k vs l = sym (converted_plus (coefficients vs)) ∙ converted-back minus k vs l
+values_coefficients k vs l = sym (converted_plus (coefficients vs)) ∙ converted_back minus k vs l
 
 pub unique : Unique
 unique k cs ds l m e = sym (coefficients_values k cs l) ∙ ap coefficients e ∙ coefficients_values k ds m

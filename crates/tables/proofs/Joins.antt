@@ -20,20 +20,20 @@ module _ (o : Operation) (half i : ℕ) (old new : List ℤ) (within : i < half)
   joins : ℕ → Type 0
   joins j = get_or (with_join o half i new) (half + j) (pos 0) ≡ applied o (get_or old (half + j) (pos 0)) (get_or old j (pos 0))
 
-  joins-here : joins i
+  joins_here : joins i
   unfolding joins
-  joins-here =
+  joins_here =
       let l = before.size in
       get_or-set_same new (half + i) _ (pos 0) (omega arith) ∙ ap₂ (applied o) (before.rest i (omega arith)) (before.lower i within)
 
   elsewhere : (j : ℕ) → j ≢ half + i → get_or (with_join o half i new) j (pos 0) ≡ get_or new j (pos 0)
   elsewhere j h = get_or-set_other new (half + i) j _ (pos 0) h
 
-  pub joining-more : Joining o half (i + 1) old (with_join o half i new)
+  pub joining_more : Joining o half (i + 1) old (with_join o half i new)
   unfolding joins
-  joining-more = record {
+  joining_more = record {
     size = length-set new (half + i) _ ∙ before.size;
-    done = λ j h. ⊎_elim (λ e. subst joins (sym e) joins-here) (λ ne. elsewhere (half + j) (λ e. ne (omega arith)) ∙ before.done j (omega arith)) (cases_eq j i);
+    done = λ j h. ⊎_elim (λ e. subst joins (sym e) joins_here) (λ ne. elsewhere (half + j) (λ e. ne (omega arith)) ∙ before.done j (omega arith)) (cases_eq j i);
     rest = λ j h. elsewhere (half + j) (λ e. omega arith) ∙ before.rest j (omega arith);
     lower = λ j h. elsewhere j (λ e. omega arith) ∙ before.lower j h;
   }
@@ -53,8 +53,8 @@ joining_all o half i old new past after = fill_by_all (joined o half old) new (h
 -- the two entries that are joined next are those of the table as it was, and small
 module _ {o : Operation} (half i : ℕ) (old new : List ℤ) (near : All (λ z. nat_abs z < 2 ^ 62) old) (long : length old ≡ half + half) (within : i < half)
     (before : Joining o half i old new) where
-  pub near-upper : nat_abs (get_or new (half + i) (pos 0)) < 2 ^ 62
-  near-upper = rw (before.rest i (omega arith)) (All-get_or (λ z. nat_abs z < 2 ^ 62) old (half + i) (pos 0) (omega arith) near)
+  pub near_upper : nat_abs (get_or new (half + i) (pos 0)) < 2 ^ 62
+  near_upper = rw (before.rest i (omega arith)) (All-get_or (λ z. nat_abs z < 2 ^ 62) old (half + i) (pos 0) (omega arith) near)
 
-  pub near-lower : nat_abs (get_or new i (pos 0)) < 2 ^ 62
-  near-lower = rw (before.lower i within) (All-get_or (λ z. nat_abs z < 2 ^ 62) old i (pos 0) (omega arith) near)
+  pub near_lower : nat_abs (get_or new i (pos 0)) < 2 ^ 62
+  near_lower = rw (before.lower i within) (All-get_or (λ z. nat_abs z < 2 ^ 62) old i (pos 0) (omega arith) near)

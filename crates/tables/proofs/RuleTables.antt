@@ -88,9 +88,9 @@ table_entry : (ts : List Term) (g : ℕ) → g < 2 ^ size (named ts) → get_or 
 table_entry ts = get_or_tabulated _ (coefficient_in (packed_terms (named ts) ts))
 
 module _ (ts : List Term) (below : named ts < 2 ^ 32) where
-  holds-coefficients : ((i j : ℕ) → i < j → j < length (map group_of ts) → get_or (map group_of ts) i 0 ≡ get_or (map group_of ts) j 0 → ⊥)
+  holds_coefficients : ((i j : ℕ) → i < j → j < length (map group_of ts) → get_or (map group_of ts) i 0 ≡ get_or (map group_of ts) j 0 → ⊥)
       → HoldsCoefficients ts (rule_table ts)
-  holds-coefficients apart = (table_long ts, stands, nothing)
+  holds_coefficients apart = (table_long ts, stands, nothing)
     where
       part : (i : ℕ) → i < length ts → inside (get_or ts i no_term).group (named ts) ≡ true
       part i l = All-get_or (λ t. inside t.group (named ts) ≡ true) ts i no_term l (inside_named ts)
@@ -110,19 +110,19 @@ module _ (ts : List Term) (below : named ts < 2 ^ 32) where
           (cases_lt g (2 ^ size (named ts)))
 
   -- at a packed line-up the table is worth what the terms are worth at the line-up
-  worth-table : (x : ℕ) → worth (as_terms (rule_table ts)) (packed (named ts) x) ≡ worth ts x
-  worth-table x =
+  worth_table : (x : ℕ) → worth (as_terms (rule_table ts)) (packed (named ts) x) ≡ worth ts x
+  worth_table x =
       let kept : ℕ → ℤ → ℤ = λ h z. cond (inside h (packed (named ts) x)) z (pos 0) in
       sums_inside (rule_table ts) (packed (named ts) x)
       ∙ ap (λ n. total n (λ h. kept h (get_or (rule_table ts) h (pos 0)))) (table_long ts)
       ∙ total_same _ _ _ (λ h l. ap (kept h) (table_entry ts h l))
       ∙ total_packed (named ts) x below ts (inside_named ts)
 
-  holds-sums : HoldsSums ts (values (rule_table ts))
-  holds-sums =
+  holds_sums : HoldsSums ts (values (rule_table ts))
+  holds_sums =
       let f = worth (as_terms (rule_table ts)) in (
         length_tabulated _ f ∙ table_long ts,
-        λ x _. get_or_tabulated _ f (packed (named ts) x) (rw (table_long ts) (packed_below (named ts) x below)) ∙ worth-table x,
+        λ x _. get_or_tabulated _ f (packed (named ts) x) (rw (table_long ts) (packed_below (named ts) x below)) ∙ worth_table x,
       )
 
   module _ (vs : List ℤ) (sums : HoldsSums ts vs) where
@@ -136,7 +136,7 @@ module _ (ts : List Term) (below : named ts < 2 ^ 32) where
     only-sums =
         let f = worth (as_terms (rule_table ts)) in
         let alike = sums.0 ∙ sym (table_long ts) in
-        tabulated_from _ f vs alike (λ c l. of-entries (λ d z. z ≡ f d) (λ x. sym (worth-table x)) c (rw alike l))
+        tabulated_from _ f vs alike (λ c l. of-entries (λ d z. z ≡ f d) (λ x. sym (worth_table x)) c (rw alike l))
 
 pub has_table : (ts : List Term) → named ts < 2 ^ 32 → size (named ts) ≤ most_table_spots → length ts ≤ most_terms
     → All (λ t. nat_abs t.coefficient ≤ most_coefficient) ts
@@ -144,9 +144,9 @@ pub has_table : (ts : List Term) → named ts < 2 ^ 32 → size (named ts) ≤ m
     → HasTable ts
 has_table ts below few short near apart = record {
   few = few;
-  coefficients = holds-coefficients ts below apart;
+  coefficients = holds_coefficients ts below apart;
   accepted = ap (λ o. answered o tt) taken;
-  sums = subst (HoldsSums ts) (sym (ap (λ o. unless o (rule_table ts) (values (rule_table ts))) taken)) (holds-sums ts below);
+  sums = subst (HoldsSums ts) (sym (ap (λ o. unless o (rule_table ts) (values (rule_table ts))) taken)) (holds_sums ts below);
   back = λ vs sums. (
     ap (λ o. answered o tt) (sums-taken vs sums),
     ap (λ o. unless o vs (coefficients vs)) (sums-taken vs sums) ∙ restored vs sums,

@@ -29,15 +29,15 @@ module _ {X : Type 0} (g : X → ℕ) (xs : List X) (i : ℕ) (d : X) (within : 
   later : List X → Bool
   later ys = repeats (map g ys)
 
-  pub repeats-found : repeats (map g xs) ≡ repeats (map g (drop i xs)) → any (eqb (g (get_or xs i d))) (map g (drop (i + 1) xs)) ≡ true
+  pub repeats_found : repeats (map g xs) ≡ repeats (map g (drop i xs)) → any (eqb (g (get_or xs i d))) (map g (drop (i + 1) xs)) ≡ true
       → true ≡ repeats (map g xs)
   unfolding later
-  repeats-found inv h = sym (inv ∙ at_drop_more later xs i d within ∙ ap (λ b. b || later (drop (i + 1) xs)) h)
+  repeats_found inv h = sym (inv ∙ at_drop_more later xs i d within ∙ ap (λ b. b || later (drop (i + 1) xs)) h)
 
-  pub repeats-next : repeats (map g xs) ≡ repeats (map g (drop i xs)) → any (eqb (g (get_or xs i d))) (map g (drop (i + 1) xs)) ≡ false
+  pub repeats_next : repeats (map g xs) ≡ repeats (map g (drop i xs)) → any (eqb (g (get_or xs i d))) (map g (drop (i + 1) xs)) ≡ false
       → repeats (map g xs) ≡ repeats (map g (drop (i + 1) xs))
   unfolding later
-  repeats-next inv h = inv ∙ at_drop_more later xs i d within ∙ ap (λ b. b || later (drop (i + 1) xs)) h
+  repeats_next inv h = inv ∙ at_drop_more later xs i d within ∙ ap (λ b. b || later (drop (i + 1) xs)) h
 
 pub repeats_nowhere : {X : Type 0} (g : X → ℕ) (xs : List X) (i : ℕ) → length xs ≤ i → repeats (map g xs) ≡ repeats (map g (drop i xs))
     → false ≡ repeats (map g xs)

@@ -1,5 +1,5 @@
 use Rattle.std.proofs.Common.{string_bytes, sym, ◌∙◌, arith}
-use Rattle.booking_day.proofs.Joins.{spelled-more, spelled_same, spelled-all}
+use Rattle.booking_day.proofs.Joins.{spelled_more, spelled_same, spelled_all}
 use Rattle.booking_day.proofs.texts.group_text.Goals as goal
 use Rattle.booking_day.proofs.texts.group_text.Goals.{then-has-spot+in-ok-number+in-ok-push-piece, else-has-spot}
 
@@ -11,7 +11,7 @@ loop-spot-preserved c =
     elim c.if-has-spot.branch [
       | then-has-spot+in-ok-number+in-ok-push-piece w ↦
           rw (w.text-is, w.first-is) (
-          spelled-more group spot text c.loop-spot.first c.loop-spot.invariant (sym c.has-spot.ensures ∙ w.if-has-spot.true)
+          spelled_more group spot text c.loop-spot.first c.loop-spot.invariant (sym c.has-spot.ensures ∙ w.if-has-spot.true)
           (string_bytes w.push-piece.new.text) w.as-str.result.now w.in-ok-push-piece.ensures
           (w.as-str.ensures.value ∙ w.in-ok-number.ensures.ok)
           )
@@ -24,4 +24,4 @@ loop-spot-preserved c =
 pub returns : goal.returns
 returns c =
     c.in-ok-push-str.ensures.bytes
-    ∙ spelled-all c.args.group c.loop-spot.spot-counter (string_bytes c.loop-spot.text) c.loop-spot.first c.loop-spot.invariant (omega arith)
+    ∙ spelled_all c.args.group c.loop-spot.spot-counter (string_bytes c.loop-spot.text) c.loop-spot.first c.loop-spot.invariant (omega arith)

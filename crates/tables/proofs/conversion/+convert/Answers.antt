@@ -1,5 +1,5 @@
 use Rattle.std.proofs.Common.{◌∙◌, arith}
-use Rattle.tables.proofs.Halves.{converted_single, lower-shorter, lower-taken, upper-shorter, upper-taken, both_long, both-near, whole_is}
+use Rattle.tables.proofs.Halves.{converted_single, lower_shorter, lower_taken, upper-shorter, upper-taken, both_long, both-near, whole_is}
 use Rattle.tables.proofs.conversion.+convert.Goals as goal
 
 pub returns-then-table-eq1 : goal.returns-then-table-eq1
@@ -10,8 +10,8 @@ convert-requires g t c κs lives =
     let o = g.J.Join.operation in
     let xs = c.args.table.now in
     let long = c.decreases in
-    let short = lower-shorter o xs c.requires c.if-table-eq1.false in
-    (omega arith, (lives, lower-taken o xs c.requires c.if-table-eq1.false))
+    let short = lower_shorter o xs c.requires c.if-table-eq1.false in
+    (omega arith, (lives, lower_taken o xs c.requires c.if-table-eq1.false))
 
 pub convert-requires-2 : goal.convert-requires-2
 convert-requires-2 g t c κs lives =

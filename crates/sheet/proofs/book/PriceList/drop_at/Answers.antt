@@ -1,6 +1,6 @@
 use Rattle.std.proofs.Common.{◌-◌, ◌∙◌, rules}
 use borrow.Rule.Slice.PartMut.{same_len_mid}
-use Rattle.sheet.proofs.PriceLists.{turned-out, apart_out}
+use Rattle.sheet.proofs.PriceLists.{turned_out, apart_out}
 use Rattle.sheet.proofs.book.PriceList.drop_at.Goals as goal
 
 pub invariant-of-self : goal.invariant-of-self
@@ -12,4 +12,4 @@ invariant-of-self c =
     (same_len_mid at (l.count - at) l.entries ys turned.len ∙ l.size, (search rules, (apart_out l at c.requires ys turned.after, tt)))
 
 pub returns : goal.returns
-returns c = turned-out c.args.self.now c.args.at c.requires c.rotate-left.new.self c.rotate-left.ensures.after
+returns c = turned_out c.args.self.now c.args.at c.requires c.rotate-left.new.self c.rotate-left.ensures.after

@@ -2,7 +2,7 @@ use Rattle.std.proofs.Common.{◌∙◌, arith, w32}
 use Rattle.std.proofs.lemmas.Int.{ints, to_z-of_z}
 use Rattle.std.proofs.lemmas.Bool.Decides.{nat_tests}
 use Rattle.sheet.specs.Of.{prices_of}
-use Rattle.sheet.proofs.PriceLists.{nothing-dropped, entry-dropped, entry-changed}
+use Rattle.sheet.proofs.PriceLists.{nothing_dropped, entry-dropped, entry-changed}
 use Rattle.sheet.proofs.book.PriceList.set.Goals as goal
 
 pub returns-in-Some : goal.returns-in-Some
@@ -21,4 +21,4 @@ returns-in-Some-2 c =
 
 pub returns-in-None : goal.returns-in-None
 returns-in-None c =
-    nothing-dropped (prices_of c.args.self.now) c.args.amount c.args.group c.in-None.ensures (grind (arith, nat_tests, ints))
+    nothing_dropped (prices_of c.args.self.now) c.args.amount c.args.group c.in-None.ensures (grind (arith, nat_tests, ints))
