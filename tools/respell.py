@@ -19,6 +19,8 @@ TOKEN = re.compile(r"[^\s(){}\[\].,;\"`|]+")
 LIBRARY = {"getD": "get_or", "sumBy": "sum_by"}
 # A name that would be that of the module it stands in.
 APART = {"Normal-form": "IsNormalForm"}
+# A name that is a plain word too: in a comment it stays.
+PLAIN = {"line-ups"}
 
 
 def antt_files(folders=("specs", "proofs")):
@@ -57,6 +59,13 @@ def respelled(name):
 
 
 def turned(text, names):
+    """A proof file or a piece of a source file."""
+    words = {old: new for old, new in names.items() if old not in PLAIN}
+    lines = [re.split(r"(?<!\S)(--|//)(?!\S)", line, maxsplit=1) for line in text.split("\n")]
+    return "\n".join("".join(in_place(part, words if i else names) for i, part in enumerate(line)) for line in lines)
+
+
+def in_place(text, names):
     return TOKEN.sub(lambda m: names.get(m[0], m[0]), text)
 
 
@@ -68,7 +77,7 @@ def turned_source(text, names):
 
 def turned_page(text, names):
     """A page: what stands between backticks."""
-    return re.sub(r"`[^`\n]+`", lambda m: turned(m[0], names), text)
+    return re.sub(r"`[^`\n]+`", lambda m: in_place(m[0], names), text)
 
 
 def main():

@@ -1,4 +1,6 @@
 // Books a break from nothing and shows what came of it.
+#![tactic(auto)]
+
 mod day;
 mod texts;
 

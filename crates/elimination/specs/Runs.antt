@@ -1,4 +1,4 @@
--- What a run of `next` answers, each call given the answer of the call before, and how line_ups are ordered.
+-- What a run of `next` answers, each call given the answer of the call before, and how line-ups are ordered.
 use Rattle.std.specs.Prelude.{◌≡◌, ℕ, zero, suc, ◌%◌, ◌^◌, ◌<◌, ◌≤◌, true, false, List, [], ◌∷◌, ◌++◌, map, length, Some, None, Ok, Err, Option, Result, slice_index}
 use Rattle.std.specs.List.{ContainsAt as Has}
 use Rattle.terms.specs.declared.refusals.Refusal.{Refusal}
@@ -18,7 +18,7 @@ abbrev pub answers_of : List ℕ → List ℕ → ℕ → Option ℕ → List (R
 answers_of ms bytes zero after = []
 answers_of ms bytes (suc n) after = next_answer ms bytes after ∷ answers_of ms bytes n (given_on (next_answer ms bytes after))
 
--- from none on the answers are the line_ups that are listed, in order, each once, and then absent
+-- from none on the answers are the line-ups that are listed, in order, each once, and then absent
 abbrev pub RunsThrough : List ℕ → List ℕ → Type 0
 RunsThrough ms bytes =
     need ms ≤ length bytes
@@ -28,7 +28,7 @@ RunsThrough ms bytes =
 abbrev pub Before : ℕ → ℕ → Type 0
 Before x y = (i : ℕ) × (x % 2 ^ i ≡ y % 2 ^ i) × (holds x i ≡ false) × (holds y i ≡ true)
 
--- the line_ups of n spots are all groups of them, in order
+-- the line-ups of n spots are all groups of them, in order
 abbrev pub InOrder : Type 0
 InOrder =
     (n : ℕ) → ((x : ℕ) → x < 2 ^ n → Has (line_ups n) x)

@@ -1,4 +1,6 @@
-// Elimination of one spot at a time: link sets, codes and the choice table; line_ups read off it.
+// Elimination of one spot at a time: link sets, codes and the choice table; line-ups read off it.
+#![tactic(auto)]
+
 pub mod codes;
 pub mod laws;
 pub mod limits;

@@ -1,4 +1,6 @@
 // Compares the conversions of tables with plain enumeration, over random tables and over the rules of a sheet.
+#![tactic(auto)]
+
 mod bookings;
 mod lengths;
 mod numbers;

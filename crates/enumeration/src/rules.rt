@@ -84,7 +84,7 @@ fn count_sums(spots: &[u32], terms: &[Term], values: &[i64]) -> usize {
 #[derive(Drop)]
 pub struct Comparison {
     spots: usize,
-    // Line-ups at which the table has the rule's sum, and line_ups at all.
+    // Line-ups at which the table has the rule's sum, and line-ups at all.
     agreed: usize,
     line_ups: usize,
     // The table of terms came back.

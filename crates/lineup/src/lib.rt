@@ -1,4 +1,6 @@
 // What makers of playout servers depend on: every public call and type of the line-up part, by name.
+#![tactic(auto)]
+
 pub use sheet::limits::{MOST_AMOUNT, MOST_PRICES, MOST_SPOTS, PLACE_COUNT, RULE_NUMBERS};
 pub use sheet::{
     Answer, Booking, Card, Draft, Locked, Pin, Pinning, Price, Rule, Sheet, replay, replay_pins,

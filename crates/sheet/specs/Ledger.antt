@@ -23,7 +23,7 @@ pub record LiveRule : Type 0 where
   pub bound : ℤ
   pub terms : List Term
 
--- what line_ups are judged and rated by: the house numbers in the order of declaration, the rule that is live under each number, and the
+-- what line-ups are judged and rated by: the house numbers in the order of declaration, the rule that is live under each number, and the
 -- prices in list order
 pub record Contents : Type 0 where
   pub houses : List ℕ

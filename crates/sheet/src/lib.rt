@@ -1,4 +1,6 @@
 // Sheets: spots, rules and prices, booked by calls and told by a ledger.
+#![tactic(auto)]
+
 pub mod book;
 pub mod bookings;
 mod calls;

@@ -1,4 +1,6 @@
 // Tests of the public calls of the line-up part, made as makers of playout servers make them.
+#![tactic(auto)]
+
 #[cfg(test)]
 mod cards;
 #[cfg(test)]

@@ -1,4 +1,6 @@
 // Tests of the two conversions of tables, of terms into values and back.
+#![tactic(auto)]
+
 #[cfg(test)]
 mod lengths;
 #[cfg(test)]

@@ -19,7 +19,7 @@ any_none : {X : Type 0} (f : X → Bool) (xs : List X) → All (λ x. f x ≡ fa
 any_none f [] _ = refl
 any_none f (x ∷ xs) each = or_from (f x) (any f xs) each.0 (any_none f xs each.1)
 
--- entries that are not large, as many as k spots have line_ups
+-- entries that are not large, as many as k spots have line-ups
 pub accepted : (xs : List ℤ) (k : ℕ) → All (λ z. nat_abs z ≤ most_entry) xs → length xs ≡ 2 ^ k → k ≤ most_table_spots → table_refusal xs ≡ None
 accepted xs k near long few =
     let none = any_none large xs (All-weaker (λ z. nat_abs z ≤ most_entry) (λ z. large z ≡ false) (λ z. le-ltb most_entry (nat_abs z)) xs near) in
@@ -31,7 +31,7 @@ small_entries xs h =
     let (none, _) = no_row (table_rows xs) h in
     All-from_get_or (λ z. nat_abs z ≤ most_entry) xs (pos 0) (λ i l. ltb-false most_entry (nat_abs (get_or xs i (pos 0))) (any_false large xs none i (pos 0) l))
 
--- they are as many as some number of spots has line_ups
+-- they are as many as some number of spots has line-ups
 pub over_spots : (xs : List ℤ) → table_refusal xs ≡ None → (k : ℕ) × (k ≤ most_table_spots) × (length xs ≡ 2 ^ k)
 over_spots xs h = let (_, (odd, _)) = no_row (table_rows xs) h in (length_says (length xs)).0 (not-false (is_table_length (length xs)) odd)
 

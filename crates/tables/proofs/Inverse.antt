@@ -1,4 +1,4 @@
--- The two conversions undo each other, and so every function of line_ups has exactly one table of terms.
+-- The two conversions undo each other, and so every function of line-ups has exactly one table of terms.
 use Rattle.std.proofs.Common.{◌≡◌, ℕ, ◌^◌, ◌<◌, List, length, get_or, ℤ, pos, sym, ap, ◌∙◌, arith}
 use Rattle.std.proofs.lemmas.List.{ext_get_or}
 use Rattle.tables.specs.NormalForm.{HasValues, IsNormalForm, Unique}

@@ -1,4 +1,4 @@
--- The polynomial normal form: every function of line_ups is the worth of exactly one table of terms.
+-- The polynomial normal form: every function of line-ups is the worth of exactly one table of terms.
 use Rattle.std.specs.Prelude.{◌≡◌, ℕ, zero, suc, ◌^◌, ◌<◌, ◌≤◌, cond, List, length, get_or, ℤ, pos, ◌+ℤ◌, Ok, Decides, ◌≢◌, slice_index_or}
 use Rattle.terms.specs.declared.polynomials.Term.{Term}
 use Rattle.terms.specs.Groups.{inside, size}
@@ -7,7 +7,7 @@ use Rattle.terms.specs.Packing.{packed}
 use Rattle.tables.specs.Tables.{as_terms, values, is_table_length, table_answer, to_values_table, to_terms_table, rule_table}
 use Rattle.terms.specs.Terms.{worth, named, no_term}
 
--- a table's length is that of the line_ups of few enough spots
+-- a table's length is that of the line-ups of few enough spots
 abbrev pub LengthSays : Type 0
 LengthSays = (n : ℕ) → Decides (is_table_length n) ((k : ℕ) × (k ≤ most_table_spots) × (n ≡ 2 ^ k))
 
@@ -20,7 +20,7 @@ total (suc n) f = total n f +ℤ f n
 abbrev pub SumsInside : Type 0
 SumsInside = (cs : List ℤ) (g : ℕ) → worth (as_terms cs) g ≡ total (length cs) (λ h. cond (inside h g) (slice_index_or cs h (pos 0)) (pos 0))
 
--- the term table has the values of a function at the line_ups of k spots
+-- the term table has the values of a function at the line-ups of k spots
 abbrev pub HasValues : ℕ → (ℕ → ℤ) → List ℤ → Type 0
 HasValues k f cs = (length cs ≡ 2 ^ k) × ((g : ℕ) → g < 2 ^ k → worth (as_terms cs) g ≡ f g)
 
@@ -58,7 +58,7 @@ HoldsCoefficients ts cs =
     × ((g : ℕ) → ((j : ℕ) → j < length ts → packed_place ts j ≢ g) → slice_index_or cs g (pos 0) ≡ pos 0)
 
 -- The terms and their table over the spots that they name, which are few: the table holds the coefficients; `to_values` makes of it the
--- sums at all line_ups; and of any table of those sums `to_terms` makes that table again.
+-- sums at all line-ups; and of any table of those sums `to_terms` makes that table again.
 pub record HasTable (ts : List Term) : Type 0 where
   pub few : size (named ts) ≤ most_table_spots
   pub coefficients : HoldsCoefficients ts (rule_table ts)

@@ -61,7 +61,7 @@ coefficients vs = converted minus vs
 abbrev pub large : ℤ → Bool
 large z = nat_lt most_entry (unsigned_abs z)
 
--- the number of line_ups of some spots, if they are few enough: a power of two
+-- the number of line-ups of some spots, if they are few enough: a power of two
 unfoldable pub is_table_length : ℕ → Bool
 is_table_length n = any (λ k. nat_eq n (2 ^ k)) (range_with_len 0 (suc most_table_spots))
 

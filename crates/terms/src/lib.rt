@@ -1,4 +1,6 @@
 // Terms over groups of spots, the relations of rules, the refusals, and the tests of a list of terms. Knows no sheet.
+#![tactic(auto)]
+
 pub mod groups;
 pub mod laws;
 pub mod limits;

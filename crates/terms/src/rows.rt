@@ -19,7 +19,7 @@ trait TermTest {
 
 // Some term passes the test.
 fn any_term<T: TermTest>(terms: &[Term], test: &T) -> bool
-    ensures { result ≡ any (passes test.now) terms.now }
+    ensures { result ≡ any (T.passes test.now) terms.now }
 {
     for term in terms {
         if test.pass(*term) {

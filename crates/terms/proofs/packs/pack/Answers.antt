@@ -9,11 +9,11 @@ use Rattle.terms.proofs.Packing.{packed_below, packed_none}
 use Rattle.terms.proofs.Lowest.{size_without, digits_lowest, digit_shifted}
 use Rattle.terms.proofs.packs.pack.Goals as goal
 
-pub overflow-shr-index : goal.overflow-shr-index
-overflow-shr-index c = trailing_lt 32 c.loop-left.left (omega arith) (omega arith)
+pub overflow_shr-index : goal.overflow_shr-index
+overflow_shr-index c = trailing_lt 32 c.loop-left.left (omega arith) (omega arith)
 
-pub overflow-shl-index : goal.overflow-shl-index
-overflow-shl-index c = omega (arith, c.loop-left.invariant.1, size_without c.loop-left.left (omega arith))
+pub overflow_shl-index : goal.overflow_shl-index
+overflow_shl-index c = omega (arith, c.loop-left.invariant.1, size_without c.loop-left.left (omega arith))
 
 -- what is added in a turn, and what is left to add
 turn : (c : goal.In-loop-left)
@@ -31,8 +31,8 @@ turn c =
     ∙ mul-add (2 ^ p) (digit % 2) (2 * rest)
     ∙ omega (arith, digit_shifted digit p short, mul_comm (2 ^ p) (digit % 2), mul_assoc (2 ^ p) 2 rest, ap (λ x. x * rest) (pow-add 2 p 1))
 
-pub overflow-add-index : goal.overflow-add-index
-overflow-add-index c =
+pub overflow_add-index : goal.overflow_add-index
+overflow_add-index c =
     let mask = c.args.mask in
     let small = ones-le 32 mask (omega arith) in
     omega (arith, turn c, c.loop-left.invariant.0, packed_below mask c.args.group (omega arith), pow_mono small)
