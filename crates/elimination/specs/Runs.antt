@@ -1,6 +1,6 @@
 -- What a run of `next` answers, each call given the answer of the call before, and how line-ups are ordered.
 use Rattle.std.specs.Prelude.{◌≡◌, ℕ, zero, suc, ◌%◌, ◌^◌, ◌<◌, ◌≤◌, true, false, List, [], ◌∷◌, ◌++◌, map, length, Some, None, Ok, Err, Option, Result, slice_index}
-use Rattle.std.specs.List.{ContainsAt as Has}
+use Rattle.std.specs.List.{ContainsAt}
 use Rattle.terms.specs.declared.refusals.Refusal.{Refusal}
 use Rattle.terms.specs.Groups.{holds}
 use Rattle.elimination.specs.Lawful.{line_ups}
@@ -31,6 +31,6 @@ Before x y = (i : ℕ) × (x % 2 ^ i ≡ y % 2 ^ i) × (holds x i ≡ false) × 
 -- the line-ups of n spots are all groups of them, in order
 abbrev pub InOrder : Type 0
 InOrder =
-    (n : ℕ) → ((x : ℕ) → x < 2 ^ n → Has (line_ups n) x)
+    (n : ℕ) → ((x : ℕ) → x < 2 ^ n → ContainsAt (line_ups n) x)
     × ((i : ℕ) → i < length (line_ups n) → slice_index (line_ups n) i < 2 ^ n)
     × ((i j : ℕ) → i < j → j < length (line_ups n) → Before (slice_index (line_ups n) i) (slice_index (line_ups n) j))

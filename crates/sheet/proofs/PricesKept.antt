@@ -1,7 +1,7 @@
 -- What a change of one amount leaves of the prices that every sheet keeps.
 use Rattle.std.proofs.Common.{◌≡◌, ℕ, ◌<◌, ◌≤◌, Bool, false, cond, not, eqb, List, [], ◌∷◌, ◌++◌, map, length, ℤ, nat_abs, filter, refl, ap, ◌∙◌, subst, arith}
 use mathlib.Core.Path.{fun_ext}
-use Rattle.std.specs.List.{AllByRecursion as All}
+use Rattle.std.specs.List.{AllByRecursion}
 use Rattle.std.proofs.ByRecursion.{All-get_or, All-from_get_or, all_kept_by, All-map, All-weaker, All-push}
 use Rattle.std.proofs.lemmas.List.{length-map, length_push, map_push}
 use Rattle.std.proofs.lemmas.List.Sums.{length-filter, count_by-le-length}
@@ -34,11 +34,11 @@ unlisted group ps h =
     let flip : (p : Price) → eqb group p.group ≡ is_for group p = λ p. grind (arith, nat_tests) in
     any_map (eqb group) price_group ps ∙ ap (λ f. any f ps) (fun_ext flip) ∙ h
 
-kept_list : (n : ℕ) (ps : List Price) → length ps ≤ most_prices → All (KeptPrice n) ps → Apart (map price_group ps) → KeptPrices n ps
+kept_list : (n : ℕ) (ps : List Price) → length ps ≤ most_prices → AllByRecursion (KeptPrice n) ps → Apart (map price_group ps) → KeptPrices n ps
 kept_list n ps short all apart = (short, λ k h. All-get_or (KeptPrice n) ps k no_price h all, apart)
 
 module _ (n : ℕ) (ps : List Price) (old : KeptPrices n ps) where
-  each : All (KeptPrice n) ps
+  each : AllByRecursion (KeptPrice n) ps
   each = All-from_get_or (KeptPrice n) ps no_price old.1
 
   kept_filtered : (test : Price → Bool) → KeptPrices n (filter test ps)
@@ -47,7 +47,7 @@ module _ (n : ℕ) (ps : List Price) (old : KeptPrices n ps) where
       (all_kept_by test (KeptPrice n) ps each) (apart_kept_by price_group test ps old.2)
 
   module _ (new : Price) (kept : KeptPrice n new) where
-    each-changed : All (λ p. KeptPrice n (changed new p)) ps
+    each-changed : AllByRecursion (λ p. KeptPrice n (changed new p)) ps
     each-changed =
         All-weaker (KeptPrice n) (λ p. KeptPrice n (changed new p))
         (λ p h. cond_both (is_for new.group p) new p (KeptPrice n) (λ _. kept) (λ _. h)) ps each

@@ -1,6 +1,6 @@
 -- Which tables a conversion accepts, and what the two conversions make of each other's tables.
 use Rattle.std.proofs.Common.{◌≡◌, ℕ, ◌^◌, ◌≤◌, Bool, false, not, List, [], ◌∷◌, length, get_or, ℤ, pos, nat_abs, Some, None, Ok, Option, sym, refl, ap, ◌∙◌, subst, arith}
-use Rattle.std.specs.List.{AllByRecursion as All}
+use Rattle.std.specs.List.{AllByRecursion}
 use Rattle.std.proofs.ByRecursion.{All-from_get_or, All-weaker}
 use Rattle.std.proofs.lemmas.Bool.{cond-false, or_from, not_from_true, not-false, le-ltb, ltb-false}
 use Rattle.terms.specs.declared.refusals.Refusal.{Refusal}
@@ -15,18 +15,18 @@ use Rattle.tables.proofs.Powers.{length_says}
 use Rattle.terms.proofs.Says.{any_false}
 use Rattle.terms.proofs.Uppermost.{no_row, uppermost_answers}
 
-any_none : {X : Type 0} (f : X → Bool) (xs : List X) → All (λ x. f x ≡ false) xs → any f xs ≡ false
+any_none : {X : Type 0} (f : X → Bool) (xs : List X) → AllByRecursion (λ x. f x ≡ false) xs → any f xs ≡ false
 any_none f [] _ = refl
 any_none f (x ∷ xs) each = or_from (f x) (any f xs) each.0 (any_none f xs each.1)
 
 -- entries that are not large, as many as k spots have line-ups
-pub accepted : (xs : List ℤ) (k : ℕ) → All (λ z. nat_abs z ≤ most_entry) xs → length xs ≡ 2 ^ k → k ≤ most_table_spots → table_refusal xs ≡ None
+pub accepted : (xs : List ℤ) (k : ℕ) → AllByRecursion (λ z. nat_abs z ≤ most_entry) xs → length xs ≡ 2 ^ k → k ≤ most_table_spots → table_refusal xs ≡ None
 accepted xs k near long few =
     let none = any_none large xs (All-weaker (λ z. nat_abs z ≤ most_entry) (λ z. large z ≡ false) (λ z. le-ltb most_entry (nat_abs z)) xs near) in
     cond-false (any large xs) _ _ none ∙ cond-false (not (is_table_length (length xs))) _ None (not_from_true _ ((length_says (length xs)).1 (k, few, long)))
 
 -- the entries of an accepted table are not large
-pub small_entries : (xs : List ℤ) → table_refusal xs ≡ None → All (λ z. nat_abs z ≤ most_entry) xs
+pub small_entries : (xs : List ℤ) → table_refusal xs ≡ None → AllByRecursion (λ z. nat_abs z ≤ most_entry) xs
 small_entries xs h =
     let (none, _) = no_row (table_rows xs) h in
     All-from_get_or (λ z. nat_abs z ≤ most_entry) xs (pos 0) (λ i l. ltb-false most_entry (nat_abs (get_or xs i (pos 0))) (any_false large xs none i (pos 0) l))

@@ -2,7 +2,7 @@
 use Rattle.std.proofs.Common.{◌≡◌, ℕ, zero, suc, ◌+◌, ◌*◌, ◌<◌, ◌≤◌, cond, List, [], ◌∷◌, map, length, get_or, ℤ, pos, ◌+ℤ◌, nat_abs, sym, refl, ap, ◌∙◌, ap₂, add-zero, zero-add, arith}
 use borrow.Author.Differences.{ints}
 use lib.Bits.{bit_xor}
-use Rattle.std.specs.List.{AllByRecursion as All}
+use Rattle.std.specs.List.{AllByRecursion}
 use Rattle.std.proofs.lemmas.List.FromFn.{length-map-range_with_len, get_or-map-range_with_len, fill_by_all}
 use Rattle.std.proofs.ByRecursion.{All-get_or, All-from_get_or}
 use Rattle.std.proofs.lemmas.List.{map-id}
@@ -70,7 +70,7 @@ pub get_or_converted : (o : Operation) (xs : List ℤ) (g : ℕ) → g < length 
     → get_or (converted o xs) g (pos 0) ≡ entry o (length xs) (λ h. get_or xs h (pos 0)) g
 get_or_converted o xs g l = ap (λ ys. get_or ys g (pos 0)) (converted_entries o xs) ∙ get_or_tabulated (length xs) _ g l
 
-pub converted_near : (o : Operation) (m : ℕ) (xs : List ℤ) → All (λ z. nat_abs z ≤ m) xs → All (λ z. nat_abs z ≤ length xs * m) (converted o xs)
+pub converted_near : (o : Operation) (m : ℕ) (xs : List ℤ) → AllByRecursion (λ z. nat_abs z ≤ m) xs → AllByRecursion (λ z. nat_abs z ≤ length xs * m) (converted o xs)
 converted_near o m xs near =
     All-from_get_or (λ z. nat_abs z ≤ length xs * m) (converted o xs) (pos 0) (λ g l.
     let within : g < length xs = omega (arith, length_converted o xs) in

@@ -1,7 +1,7 @@
 -- The halves of a table that are converted one after the other, and what they make of the whole.
 use Rattle.std.proofs.Common.{◌≡◌, ℕ, zero, suc, ◌+◌, ◌-◌, ◌*◌, ◌/◌, ◌^◌, ◌<◌, ◌≤◌, ltb, List, [], ◌++◌, length, get_or, take, drop, ℤ, pos, nat_abs, None, sym, ap, ◌∙◌, subst, ap₂, ⊎_elim, le_of_lt, pow-suc, arith, length-append, length-drop, length-take, pow_pos, pow_mono}
 use borrow.Rule.Slice.PartMut.{put_mid, post_of}
-use Rattle.std.specs.List.{AllByRecursion as All}
+use Rattle.std.specs.List.{AllByRecursion}
 use Rattle.std.proofs.ByRecursion.{All-append, All-weaker, All-take, All-drop}
 use Rattle.std.proofs.lemmas.List.{append-nil, take_at, drop_at, drop_all, take_rest, get_or-take, get_or-drop, get_or_append_left, get_or-append-add}
 use Rattle.std.proofs.lemmas.Bool.{cases_lt, lt-ltb, le-ltb, cond-true, cond-false}
@@ -133,15 +133,15 @@ module _ (o : Operation) (xs : List ℤ) (taken : table_refusal xs ≡ None) (ma
   unfolding half
   half_is = omega (arith, twice)
 
-  near : All (λ z. nat_abs z ≤ most_entry) xs
+  near : AllByRecursion (λ z. nat_abs z ≤ most_entry) xs
   near = small_entries xs taken
 
   -- a half is accepted too, and its entries, once they are converted, can be joined
-  half_taken : (ws : List ℤ) → length ws ≡ 2 ^ k → All (λ z. nat_abs z ≤ most_entry) ws → table_refusal ws ≡ None
+  half_taken : (ws : List ℤ) → length ws ≡ 2 ^ k → AllByRecursion (λ z. nat_abs z ≤ most_entry) ws → table_refusal ws ≡ None
   unfolding k
   half_taken ws long small = accepted ws k small long (let few = less.1 in omega arith)
 
-  half_near : (ws : List ℤ) → length ws ≡ 2 ^ k → All (λ z. nat_abs z ≤ most_entry) ws → All (λ z. nat_abs z < 2 ^ 62) (converted o ws)
+  half_near : (ws : List ℤ) → length ws ≡ 2 ^ k → AllByRecursion (λ z. nat_abs z ≤ most_entry) ws → AllByRecursion (λ z. nat_abs z < 2 ^ 62) (converted o ws)
   unfolding k
   half_near ws long small =
       let bound : 2 ^ k ≤ 2 ^ most_table_spots = pow_mono (le_of_lt less.1) in
@@ -151,10 +151,10 @@ module _ (o : Operation) (xs : List ℤ) (taken : table_refusal xs ≡ None) (ma
   lower_lent_is : take (half - 0) xs ≡ take (2 ^ k) xs
   lower_lent_is = let e : half - 0 ≡ 2 ^ k = omega (arith, half_is) in ap (λ n. take n xs) e
 
-  lower_near : All (λ z. nat_abs z ≤ most_entry) (take (2 ^ k) xs)
+  lower_near : AllByRecursion (λ z. nat_abs z ≤ most_entry) (take (2 ^ k) xs)
   lower_near = All-take (λ z. nat_abs z ≤ most_entry) (2 ^ k) xs near
 
-  upper_near : All (λ z. nat_abs z ≤ most_entry) (drop (2 ^ k) xs)
+  upper_near : AllByRecursion (λ z. nat_abs z ≤ most_entry) (drop (2 ^ k) xs)
   upper_near = All-drop (λ z. nat_abs z ≤ most_entry) (2 ^ k) xs near
 
   pub lower_shorter : length (take (length xs / 2 - 0) xs) < length xs
@@ -195,10 +195,10 @@ module _ (o : Operation) (xs : List ℤ) (taken : table_refusal xs ≡ None) (ma
           let sides = length-append (converted o (take (2 ^ k) xs)) (converted o (drop (2 ^ k) xs)) in
           ap length both_is ∙ omega (arith, sides, length_lower_converted o k xs twice, length_upper_converted o k xs twice, half_is)
 
-      pub both-near : All (λ z. nat_abs z < 2 ^ 62) (with_both (length xs / 2) xs ys zs)
+      pub both-near : AllByRecursion (λ z. nat_abs z < 2 ^ 62) (with_both (length xs / 2) xs ys zs)
       unfolding half
       both-near =
-          subst (All (λ z. nat_abs z < 2 ^ 62)) (sym both_is)
+          subst (AllByRecursion (λ z. nat_abs z < 2 ^ 62)) (sym both_is)
           (All-append (λ z. nat_abs z < 2 ^ 62) (converted o (take (2 ^ k) xs)) (converted o (drop (2 ^ k) xs))
           (half_near (take (2 ^ k) xs) (length_lower o k xs twice) lower_near)
           (half_near (drop (2 ^ k) xs) (length_upper o k xs twice) upper_near))

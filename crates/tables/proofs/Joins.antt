@@ -1,6 +1,6 @@
 -- The loop that joins the halves of a table, entry by entry of the upper half.
 use Rattle.std.proofs.Common.{◌≡◌, ℕ, ◌+◌, ◌-◌, ◌^◌, ◌<◌, ◌≤◌, ltb, ◌≢◌, List, length, get_or, ℤ, pos, nat_abs, sym, ap, ◌∙◌, subst, ap₂, ⊎_elim, arith}
-use Rattle.std.specs.List.{AllByRecursion as All}
+use Rattle.std.specs.List.{AllByRecursion}
 use Rattle.std.proofs.lemmas.List.FromFn.{fill_by_all}
 use Rattle.std.proofs.ByRecursion.{All-get_or}
 use Rattle.std.proofs.lemmas.List.{length-set, get_or-set_same, get_or-set_other}
@@ -51,7 +51,7 @@ joining_all o half i old new past after = fill_by_all (joined o half old) new (h
         (cases_lt k half)
 
 -- the two entries that are joined next are those of the table as it was, and small
-module _ {o : Operation} (half i : ℕ) (old new : List ℤ) (near : All (λ z. nat_abs z < 2 ^ 62) old) (long : length old ≡ half + half) (within : i < half)
+module _ {o : Operation} (half i : ℕ) (old new : List ℤ) (near : AllByRecursion (λ z. nat_abs z < 2 ^ 62) old) (long : length old ≡ half + half) (within : i < half)
     (before : Joining o half i old new) where
   pub near_upper : nat_abs (get_or new (half + i) (pos 0)) < 2 ^ 62
   near_upper = rw (before.rest i (omega arith)) (All-get_or (λ z. nat_abs z < 2 ^ 62) old (half + i) (pos 0) (omega arith) near)

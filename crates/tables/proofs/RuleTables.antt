@@ -2,7 +2,7 @@
 use Rattle.std.proofs.Common.{◌≡◌, ℕ, zero, suc, ◌*◌, ◌^◌, ◌<◌, ◌≤◌, Bool, true, false, cond, not, eqb, List, [], ◌∷◌, map, length, get_or, ℤ, pos, ◌+ℤ◌, nat_abs, None, sym, refl, ap, ◌∙◌, subst, ap₂, ⊎_elim, arith}
 use borrow.Author.Differences.{ints}
 use lib.IntN.{+ℤ_idl, +ℤ_idr}
-use Rattle.std.specs.List.{AllByRecursion as All}
+use Rattle.std.specs.List.{AllByRecursion}
 use Rattle.std.proofs.ByRecursion.{All-get_or, All-from_get_or}
 use Rattle.std.proofs.lemmas.List.{get_or-map, get_or_past, length-map}
 use Rattle.std.proofs.lemmas.Bool.{cases_lt, cond-true, cond-false, cond_both, eq-eqb, ne_eqb}
@@ -27,7 +27,7 @@ use Rattle.tables.proofs.Totals.{total_same, total_none, total_applied, total_on
 -- a sum of some of the coefficients, which `test` picks, is not large
 picked_near : (f : List Term → ℤ) (test : Term → Bool) → f [] ≡ pos 0
     → ((t : Term) (us : List Term) → f (t ∷ us) ≡ cond (test t) t.coefficient (pos 0) +ℤ f us)
-    → (us : List Term) → All (λ t. nat_abs t.coefficient ≤ most_coefficient) us → nat_abs (f us) ≤ length us * most_coefficient
+    → (us : List Term) → AllByRecursion (λ t. nat_abs t.coefficient ≤ most_coefficient) us → nat_abs (f us) ≤ length us * most_coefficient
 picked_near f test none more [] _ = rw none (omega arith)
 picked_near f test none more (t ∷ us) near =
     let first = part_near (test t) most_coefficient t.coefficient near.0 in
@@ -63,7 +63,7 @@ cond_split false true z r = refl
 cond_split false false z r = refl
 
 -- the coefficients at the groups inside a packed line-up come to what the terms are worth at the line-up
-total_packed : (m x : ℕ) → m < 2 ^ 32 → (us : List Term) → All (λ t. inside t.group m ≡ true) us
+total_packed : (m x : ℕ) → m < 2 ^ 32 → (us : List Term) → AllByRecursion (λ t. inside t.group m ≡ true) us
     → total (2 ^ size m) (λ h. cond (inside h (packed m x)) (coefficient_in (packed_terms m us) h) (pos 0)) ≡ worth us x
 total_packed m x below [] _ =
     total_none (2 ^ size m) _ (λ h _. cond_both (inside h (packed m x)) (pos 0) (pos 0) (λ z. z ≡ pos 0) (λ _. refl) (λ _. refl))
@@ -139,7 +139,7 @@ module _ (ts : List Term) (below : named ts < 2 ^ 32) where
         tabulated_from _ f vs alike (λ c l. of-entries (λ d z. z ≡ f d) (λ x. sym (worth_table x)) c (rw alike l))
 
 pub has_table : (ts : List Term) → named ts < 2 ^ 32 → size (named ts) ≤ most_table_spots → length ts ≤ most_terms
-    → All (λ t. nat_abs t.coefficient ≤ most_coefficient) ts
+    → AllByRecursion (λ t. nat_abs t.coefficient ≤ most_coefficient) ts
     → ((i j : ℕ) → i < j → j < length (map group_of ts) → get_or (map group_of ts) i 0 ≡ get_or (map group_of ts) j 0 → ⊥)
     → HasTable ts
 has_table ts below few short near apart = record {

@@ -1,6 +1,6 @@
 // Tables of terms and of values, converted into each other in place: the polynomial normal form of a pseudo-Boolean function.
 ghost use Rattle.std.specs.Prelude.{◌≡◌, ◌+◌, ◌^◌, ◌<◌, length, pos, None, Ok, slice_index_or, unsigned_abs};
-ghost use Rattle.std.specs.List.{AllByRecursion as All};
+ghost use Rattle.std.specs.List.{AllByRecursion};
 ghost use Rattle.terms.specs.Tests.{any};
 ghost use Rattle.tables.specs.Conversion.{converted_table, joined, with_join};
 ghost use Rattle.tables.specs.Tables.{Operation, plus, minus, applied, tabulated, converted};
@@ -49,7 +49,7 @@ fn join_entry<J: Join>(table: &mut [i64], half: usize, i: usize)
     requires within { i < half }
     requires upper { unsigned_abs (slice_index_or table.old (half + i) (pos 0)) < 2 ^ 62 }
     requires lower { unsigned_abs (slice_index_or table.old i (pos 0)) < 2 ^ 62 }
-    ensures { table.new ≡ with_join operation half i table.old }
+    ensures { table.new ≡ with_join J.operation half i table.old }
 {
     table[half + i] = J::join(table[half + i], table[i]);
 }
@@ -57,8 +57,8 @@ fn join_entry<J: Join>(table: &mut [i64], half: usize, i: usize)
 // Joins the upper half of a table, whose halves are converted, with the lower half.
 fn join_halves<J: Join>(table: &mut [i64], half: usize)
     requires size { length table.old ≡ half + half }
-    requires near { All (λ z. unsigned_abs z < 2 ^ 62) table.old }
-    ensures { table.new ≡ tabulated (half + half) (joined operation half table.old) }
+    requires near { AllByRecursion (λ z. unsigned_abs z < 2 ^ 62) table.old }
+    ensures { table.new ≡ tabulated (half + half) (joined J.operation half table.old) }
 {
     for i in 0..half {
         join_entry::<J>(table, half, i);
@@ -68,7 +68,7 @@ fn join_halves<J: Join>(table: &mut [i64], half: usize)
 // Converts a table: each half as a table of its own, over one spot less, and then the join of both.
 fn convert<J: Join>(table: &mut [i64])
     requires { table_refusal table.old ≡ None }
-    ensures { table.new ≡ converted operation table.old }
+    ensures { table.new ≡ converted J.operation table.old }
 {
     if table.len() == 1 {
         return;
@@ -121,7 +121,7 @@ fn refusal_of(table: &[i64]) -> Option<Refusal>
 // Converts a table, or refuses it.
 fn convert_checked<J: Join>(table: &mut [i64]) -> Result<(), Refusal>
     ensures answer { result ≡ table_answer table.old }
-    ensures table { table.new ≡ converted_table operation table.old }
+    ensures table { table.new ≡ converted_table J.operation table.old }
 {
     if let Some(refusal) = refusal_of(table) {
         return Err(refusal);

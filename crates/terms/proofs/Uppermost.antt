@@ -1,6 +1,6 @@
 -- The rows that fit a call, and which of them answers.
 use Rattle.std.proofs.Common.{◌≡◌, ℕ, zero, suc, ◌<◌, ◌≤◌, Bool, true, false, cond, List, [], ◌∷◌, length, get_or, Some, None, Option, refl, ◌∙◌, le_refl, arith, MatchOption}
-use Rattle.std.specs.List.{AllByRecursion as All}
+use Rattle.std.specs.List.{AllByRecursion}
 use Rattle.std.proofs.lemmas.Bool.{both_ways, cond-true, cond-false, cond_both}
 use Rattle.std.proofs.ByRecursion.{All-get_or}
 use Rattle.terms.specs.Refusals.{Row, uppermost, stands, NoneFits, Tops, Uppermost}
@@ -10,7 +10,7 @@ first_fits : (b : Bool) (e : Refusal) (o : Option Refusal) → cond b (Some e) o
 first_fits true e o h = let z : ◌≡◌ {A = ℕ} 0 1 = cc in absurd (omega arith)
 first_fits false e o h = (cc, h)
 
-pub no_row : (rs : List Row) → uppermost rs ≡ None → All (λ r. r.fits ≡ false) rs
+pub no_row : (rs : List Row) → uppermost rs ≡ None → AllByRecursion (λ r. r.fits ≡ false) rs
 no_row [] h = tt
 no_row (r ∷ rs) h = let p = first_fits r.fits r.refusal (uppermost rs) h in (p.0, no_row rs p.1)
 
@@ -21,9 +21,9 @@ second_row r s rs h k =
 -- each row stands above those that follow it
 abbrev pub InOrder : List Row → Type 0
 InOrder [] = Unit {0}
-InOrder (r ∷ rs) = All (λ s. stands r.refusal ≤ stands s.refusal) rs × InOrder rs
+InOrder (r ∷ rs) = AllByRecursion (λ s. stands r.refusal ≤ stands s.refusal) rs × InOrder rs
 
-tops_first : (r : Row) (rs : List Row) → r.fits ≡ true → All (λ s. stands r.refusal ≤ stands s.refusal) rs → Tops (r ∷ rs) r.refusal
+tops_first : (r : Row) (rs : List Row) → r.fits ≡ true → AllByRecursion (λ s. stands r.refusal ≤ stands s.refusal) rs → Tops (r ∷ rs) r.refusal
 tops_first r rs h above = ((0, omega arith, λ d. (h, refl)), below)
   where
     below : (k : ℕ) (d : Row) → k < length (r ∷ rs) → (get_or (r ∷ rs) k d).fits ≡ true → stands r.refusal ≤ stands (get_or (r ∷ rs) k d).refusal

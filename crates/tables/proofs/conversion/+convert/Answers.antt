@@ -21,8 +21,8 @@ convert-requires-2 g t c κs lives =
     let short = upper-shorter o xs c.requires c.if-table-eq1.false c.convert.new.table c.convert.ensures in
     (omega arith, (lives, upper-taken o xs c.requires c.if-table-eq1.false c.convert.new.table c.convert.ensures))
 
-pub join-halves-requires : goal.join-halves-requires
-join-halves-requires g t c =
+pub join_halves-requires : goal.join_halves-requires
+join_halves-requires g t c =
     let o = g.J.Join.operation in
     let xs = c.args.table.now in record {
       size = both_long o xs c.requires c.if-table-eq1.false c.convert.new.table c.convert.ensures c.convert-2.new.table c.convert-2.ensures;
@@ -33,5 +33,5 @@ pub returns : goal.returns
 returns g t c =
     let o = g.J.Join.operation in
     let xs = c.args.table.now in
-    c.join-halves.ensures
+    c.join_halves.ensures
     ∙ whole_is o xs c.requires c.if-table-eq1.false c.convert.new.table c.convert.ensures c.convert-2.new.table c.convert-2.ensures

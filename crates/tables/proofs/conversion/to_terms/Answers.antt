@@ -6,9 +6,9 @@ use Rattle.tables.proofs.conversion.to_terms.Goals as goal
 pub returns : goal.returns
 returns c =
     let xs = c.args.table.now in record {
-      answer = c.convert-checked.ensures.answer;
-      table = c.convert-checked.ensures.table;
+      answer = c.convert_checked.ensures.answer;
+      table = c.convert_checked.ensures.table;
       uppermost = tables_uppermost xs;
       restored = terms_restored xs;
-      only = λ h. subst (OnlyTerms xs) (sym c.convert-checked.ensures.table) (only_terms xs (sym c.convert-checked.ensures.answer ∙ h));
+      only = λ h. subst (OnlyTerms xs) (sym c.convert_checked.ensures.table) (only_terms xs (sym c.convert_checked.ensures.answer ∙ h));
     }

@@ -8,8 +8,8 @@ use Rattle.tables.proofs.conversion.to_values.Goals as goal
 pub returns : goal.returns
 returns c =
     let xs = c.args.table.now in record {
-      answer = c.convert-checked.ensures.answer;
-      table = c.convert-checked.ensures.table ∙ ap (unless (table_refusal xs) xs) (converted_plus xs);
+      answer = c.convert_checked.ensures.answer;
+      table = c.convert_checked.ensures.table ∙ ap (unless (table_refusal xs) xs) (converted_plus xs);
       uppermost = tables_uppermost xs;
       restored = values_restored xs;
     }

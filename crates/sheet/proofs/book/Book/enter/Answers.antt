@@ -9,8 +9,8 @@ use Rattle.sheet.proofs.Ledgers.{same_ledger}
 use Rattle.sheet.proofs.Rules.{put_set, within_some, rules_after}
 use Rattle.sheet.proofs.book.Book.enter.Goals as goal
 
-pub invariant-of-self : goal.invariant-of-self
-invariant-of-self c =
+pub invariant_of-self : goal.invariant_of-self
+invariant_of-self c =
     let b = c.args.self.now in
     let n = c.args.number in
     let lt : n < length b.rules = omega (arith, c.requires.number, b.size) in

@@ -6,8 +6,8 @@ use Rattle.sheet.specs.Of.{live_rule}
 use Rattle.sheet.proofs.Rules.{rule_past}
 use Rattle.sheet.proofs.book.Book.is_live.Goals as goal
 
-pub returns-else-number-lt-RULE-NUMBERS : goal.returns-else-number-lt-RULE-NUMBERS
-returns-else-number-lt-RULE-NUMBERS c =
+pub returns-else-number-lt-RULE_NUMBERS : goal.returns-else-number-lt-RULE_NUMBERS
+returns-else-number-lt-RULE_NUMBERS c =
     let b = c.args.self.now in
-    le-ltb c.args.number rule_numbers c.if-number-lt-RULE-NUMBERS.false
+    le-ltb c.args.number rule_numbers c.if-number-lt-RULE_NUMBERS.false
     ∙ sym (ap (λ x. is_some (option_map (live_rule b.places) x)) (rule_past b c.args.number (omega arith)))

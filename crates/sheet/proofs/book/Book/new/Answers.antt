@@ -6,8 +6,8 @@ use Rattle.sheet.proofs.Ledgers.{same_ledger}
 use Rattle.sheet.proofs.Rules.{get_or_all}
 use Rattle.sheet.proofs.book.Book.new.Goals as goal
 
-pub invariant-of-result : goal.invariant-of-result
-invariant-of-result c =
+pub invariant_of-result : goal.invariant_of-result
+invariant_of-result c =
     let no_rule : Option Placed = None in
     (refl, (λ k r e. let none = get_or_all 64 no_rule k in let z : ◌≡◌ {A = ℕ} 0 1 = cc in absurd (omega arith), tt))
 

@@ -17,14 +17,14 @@ enter-requires c =
     let l = ledger c.args.self.now false in
     let p = posting c.args.number c.args.relation c.args.bound c.args.terms.now in
     let fit = fit_post l p (same_bound l c.args.number c.args.relation c.args.bound c.args.terms.now c.ranges.bound
-    c.in-default.ensures) in
+    c.in_default.ensures) in
     record { number = omega arith; relation = fit.related; room = fit.room; named = fit.spotted }
 
 pub returns : goal.returns
 returns c =
     let l = ledger c.args.self.now false in
     let p = posting c.args.number c.args.relation c.args.bound c.args.terms.now in
-    let free = same_bound l c.args.number c.args.relation c.args.bound c.args.terms.now c.ranges.bound c.in-default.ensures in
+    let free = same_bound l c.args.number c.args.relation c.args.bound c.args.terms.now c.ranges.bound c.in_default.ensures in
     record {
       after =
           c.enter.ensures ∙ ap (λ z. posted l (posting c.args.number c.args.relation z c.args.terms.now)) (to_z-of_z w32 c.args.bound c.ranges.bound)

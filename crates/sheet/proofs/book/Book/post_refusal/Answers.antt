@@ -7,7 +7,7 @@ use Rattle.sheet.proofs.Accepted.{full_post}
 use Rattle.sheet.proofs.book.Book.post_refusal.Goals as goal
 
 -- the count of the unused places is past what the search unfolds
-pub returns-then-lacks-places : goal.returns-then-lacks-places
-returns-then-lacks-places c =
+pub returns-then-lacks_places : goal.returns-then-lacks_places
+returns-then-lacks_places c =
     sym (full_post (ledger c.args.self.now false) (posting c.args.number c.args.relation c.args.bound c.args.terms.now)
-    (subst (λ n. any (λ t. beyond n t.group) c.args.terms.now ≡ false) c.len.ensures (sym c.if-names-beyond.ensures)) (sym c.if-lacks-places.ensures))
+    (subst (λ n. any (λ t. beyond n t.group) c.args.terms.now ≡ false) c.len.ensures (sym c.if-names_beyond.ensures)) (sym c.if-lacks_places.ensures))

@@ -12,19 +12,19 @@ use Rattle.sheet.proofs.book.Book.withdraw.Goals as goal
 low : (b : Book) (n : ℕ) → None ≡ refusal (ledger b false) (Withdraws n) → n < length b.rules
 low b n e = omega (arith, fit_withdraw (ledger b false) n (sym e), b.size)
 
-pub invariant-of-self : goal.invariant-of-self
-invariant-of-self c =
+pub invariant_of-self : goal.invariant_of-self
+invariant_of-self c =
     let b = c.args.self.now in
     let n = c.args.number in (
       length-set b.rules n None ∙ b.size,
-      (within_none b.rules b.places.used n (low b n c.in-default.ensures) b.within, tt),
+      (within_none b.rules b.places.used n (low b n c.in_default.ensures) b.within, tt),
     )
 
 pub returns : goal.returns
 returns c =
     let b = c.args.self.now in
     let n = c.args.number in
-    let free = c.in-default.ensures in
+    let free = c.in_default.ensures in
     record {
       after =
           same_ledger false refl (put_set (option_map (live_rule b.places)) b.rules n None None (low b n free)) refl refl

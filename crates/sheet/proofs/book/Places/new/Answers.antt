@@ -2,8 +2,8 @@ use Rattle.std.proofs.Common.{refl}
 use Rattle.sheet.proofs.TermPlaces.{untouched, places_untouched}
 use Rattle.sheet.proofs.book.Places.new.Goals as goal
 
-pub invariant-of-result : goal.invariant-of-result
-invariant-of-result c = (untouched.size, (untouched.few, (untouched.filled, tt)))
+pub invariant_of-result : goal.invariant_of-result
+invariant_of-result c = (untouched.size, (untouched.few, (untouched.filled, tt)))
 
 pub returns : goal.returns
 returns c = record { used = refl; places = places_untouched }

@@ -4,8 +4,8 @@ use Rattle.sheet.specs.Ledger.{price_of}
 use Rattle.sheet.proofs.PriceLists.{written_behind, apart-behind}
 use Rattle.sheet.proofs.book.PriceList.add.Goals as goal
 
-pub invariant-of-self : goal.invariant-of-self
-invariant-of-self c = (search rules, (search rules, (apart-behind c.args.self.now _ c.requires.room c.requires.fresh, tt)))
+pub invariant_of-self : goal.invariant_of-self
+invariant_of-self c = (search rules, (search rules, (apart-behind c.args.self.now _ c.requires.room c.requires.fresh, tt)))
 
 pub returns : goal.returns
 returns c =

@@ -4,8 +4,8 @@ use Rattle.sheet.specs.Ledger.{price_of}
 use Rattle.sheet.proofs.PriceLists.{written_over, apart-over}
 use Rattle.sheet.proofs.book.PriceList.change.Goals as goal
 
-pub invariant-of-self : goal.invariant-of-self
-invariant-of-self c = (search rules, (search rules, (apart-over c.args.self.now _ c.args.at c.requires.listed c.requires.own_val, tt)))
+pub invariant_of-self : goal.invariant_of-self
+invariant_of-self c = (search rules, (search rules, (apart-over c.args.self.now _ c.args.at c.requires.listed c.requires.own_val, tt)))
 
 pub returns : goal.returns
 returns c =

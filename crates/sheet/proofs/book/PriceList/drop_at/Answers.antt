@@ -3,13 +3,13 @@ use borrow.Rule.Slice.PartMut.{same_len_mid}
 use Rattle.sheet.proofs.PriceLists.{turned_out, apart_out}
 use Rattle.sheet.proofs.book.PriceList.drop_at.Goals as goal
 
-pub invariant-of-self : goal.invariant-of-self
-invariant-of-self c =
+pub invariant_of-self : goal.invariant_of-self
+invariant_of-self c =
     let l = c.args.self.now in
     let at = c.args.at in
-    let ys = c.rotate-left.new.self in
-    let turned = c.rotate-left.ensures in
+    let ys = c.rotate_left.new.self in
+    let turned = c.rotate_left.ensures in
     (same_len_mid at (l.count - at) l.entries ys turned.len ∙ l.size, (search rules, (apart_out l at c.requires ys turned.after, tt)))
 
 pub returns : goal.returns
-returns c = turned_out c.args.self.now c.args.at c.requires c.rotate-left.new.self c.rotate-left.ensures.after
+returns c = turned_out c.args.self.now c.args.at c.requires c.rotate_left.new.self c.rotate_left.ensures.after

@@ -7,4 +7,4 @@ use Rattle.sheet.proofs.book.PriceList.has.Goals as goal
 
 pub returns : goal.returns
 returns c =
-    c.is-some.ensures ∙ any_some (is_for c.args.group) (prices_of c.args.self.now) no_price c.find.result c.find.ensures
+    c.is_some.ensures ∙ any_some (is_for c.args.group) (prices_of c.args.self.now) no_price c.find.result c.find.ensures

@@ -9,7 +9,7 @@ pub returns-in-Some : goal.returns-in-Some
 returns-in-Some c =
     let l = c.args.self.now in
     let (listed, own) = c.in-Some.ensures in
-    c.drop-at.ensures
+    c.drop_at.ensures
     ∙ entry-dropped (prices_of l) c.args.amount c.args.group c.in-Some.at listed own l.apart (grind (arith, nat_tests, ints))
 
 pub returns-in-Some-2 : goal.returns-in-Some-2

@@ -4,8 +4,8 @@ use Rattle.sheet.specs.Of.{ledger}
 use Rattle.sheet.proofs.Histories.{told_step, kept_after}
 use Rattle.sheet.proofs.states.Draft.declare.Goals as goal
 
-pub invariant-of-self : goal.invariant-of-self
-invariant-of-self c =
+pub invariant_of-self : goal.invariant_of-self
+invariant_of-self c =
     let d = c.args.self.now in
     let l = ledger d.book false in
     let m = ledger c.declare.new.self false in

@@ -4,8 +4,8 @@ use Rattle.sheet.specs.Of.{ledger}
 use Rattle.sheet.proofs.Histories.{told_step, kept_after}
 use Rattle.sheet.proofs.states.Draft.lock.Goals as goal
 
-pub invariant-of-result : goal.invariant-of-result
-invariant-of-result c =
+pub invariant_of-result : goal.invariant_of-result
+invariant_of-result c =
     let s = c.args.self in
     let l = ledger s.book false in
     let m = ledger s.book true in

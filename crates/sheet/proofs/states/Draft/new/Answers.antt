@@ -3,7 +3,7 @@ use Rattle.sheet.specs.Of.{ledger}
 use Rattle.sheet.proofs.Histories.{told_new, kept_new}
 use Rattle.sheet.proofs.states.Draft.new.Goals as goal
 
-pub invariant-of-result : goal.invariant-of-result
-invariant-of-result c =
+pub invariant_of-result : goal.invariant_of-result
+invariant_of-result c =
     let l = ledger c.new.result false in
     (told_new l c.new.ensures, (kept_new l c.new.ensures, tt))
