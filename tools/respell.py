@@ -14,11 +14,13 @@ import re
 import sys
 
 HEAD = re.compile(r"^(?:(?:abbrev|unfoldable|pub|data|record|ruleset)\s+)*([^\s(){}\[\].,;:=]+)(?=\s|:)[^:]*:\s*(\S*)")
-MEMBER = re.compile(r"^  (?:abbrev )?(?:pub )?([^\s(){}\[\].,;:=]+) : ")
+MEMBER = re.compile(r"^(?:  ){1,3}(?:abbrev )?(?:pub )?([^\s(){}\[\].,;:=]+) : ")
 TOKEN = re.compile(r"[^\s(){}\[\].,;\"`|]+")
 LIBRARY = {"getD": "get_or", "sumBy": "sum_by"}
 # A name that would be that of the module it stands in.
 APART = {"Normal-form": "IsNormalForm"}
+# The dashed fields of the repository's records.
+FIELDS = {"on-sheet"}
 # A name that is a plain word too: in a comment it stays.
 PLAIN = {"line-ups"}
 
@@ -66,7 +68,8 @@ def turned(text, names):
 
 
 def in_place(text, names):
-    return TOKEN.sub(lambda m: names.get(m[0], m[0]), text)
+    """What stands behind a dot is a step of a function or a variable's new value, unless it is a field of the repository's own."""
+    return TOKEN.sub(lambda m: m[0] if m.start() and text[m.start() - 1] == "." and m[0] not in FIELDS else names.get(m[0], m[0]), text)
 
 
 def turned_source(text, names):

@@ -2,7 +2,7 @@
 use Rattle.std.proofs.Common.{◌≡◌, ℕ, List, [], ◌∷◌, ◌++◌, map, length, get_or, sym, ap, ◌∙◌, subst}
 use mathlib.Core.Logic.{∥∥₁_elim, ∥∥₁_map}
 use base.Stored.{coded_ℕ}
-use denote.Struct.Props.{props, ≡_prop, three_prop, four_prop, five_prop}
+use denote.Struct.Props.{props}
 use denote.Struct.Record.{Also-prop}
 use native.Mathlib.Bridge.{le_prop}
 use std.HLevel.{Π_prop}
@@ -31,21 +31,16 @@ spotted_prop : (n g : ℕ) → IsProp (Spotted n g)
 spotted_prop n g = hlevel props
 
 terms_prop : (n : ℕ) (ts : List Term) → IsProp (KeptTerms n ts)
-terms_prop n ts = five_prop le_prop le_prop
-    (Π_prop (λ k. Π_prop (λ _. three_prop le_prop le_prop (spotted_prop n (get_or ts k no_term).group)))) (apart_prop (map group_of ts)) le_prop
+terms_prop n ts = hlevel props
 
 rules_prop : (c : Contents) → IsProp (KeptRules c)
-rules_prop c = Π_prop (λ number. Π_prop (λ r. Π_prop (λ _. four_prop le_prop le_prop le_prop (terms_prop (length c.houses) r.terms))))
+rules_prop c = hlevel props
 
 prices_prop : (n : ℕ) (ps : List Price) → IsProp (KeptPrices n ps)
-prices_prop n ps = three_prop le_prop
-    (Π_prop (λ k. Π_prop (λ _. four_prop le_prop le_prop (spotted_prop n (get_or ps k no_price).group) le_prop))) (apart_prop (map price_group ps))
+prices_prop n ps = hlevel props
 
 kept_prop : (l : Ledger) → IsProp (Kept l)
-kept_prop l = Also-prop
-    (three_prop (Also-prop le_prop (λ _. apart_prop l.contents.houses)) (rules_prop l.contents)
-    (prices_prop (length l.contents.houses) l.contents.prices))
-    (λ _. ≡_prop coded_ℕ (length l.places) place_count)
+kept_prop l = hlevel props
 
 pub kept_of : (l : Ledger) → ∥ Kept l ∥₁ → Kept l
 kept_of l k = ∥∥₁_elim k (kept_prop l) (λ x. x)

@@ -112,11 +112,11 @@ module _ (ps : List Price) (amount : ℤ) (group : ℕ) where
   nothing_dropped fresh zero' = rw zero' (sym (kept_none (is_for group) ps fresh))
 
   module _ (k : ℕ) (l : k < length ps) (own : is_for group (get_or ps k no_price) ≡ true) (apart : Apart ps) where
-    pub entry-dropped : is_zero amount ≡ true → remove ps k ≡ with_amount ps amount group
-    entry-dropped zero' = rw zero' (sym (kept_lone (is_for group) ps k no_price l own (others ps k l apart group own)))
+    pub entry_dropped : is_zero amount ≡ true → remove ps k ≡ with_amount ps amount group
+    entry_dropped zero' = rw zero' (sym (kept_lone (is_for group) ps k no_price l own (others ps k l apart group own)))
 
-    pub entry-changed : is_zero amount ≡ false → set ps k (price_of amount group) ≡ with_amount ps amount group
-    entry-changed some =
+    pub entry_changed : is_zero amount ≡ false → set ps k (price_of amount group) ≡ with_amount ps amount group
+    entry_changed some =
         rw (some, any_at (is_for group) ps k no_price l own)
         (sym (map_lone (is_for group) (price_of amount group) ps k no_price l own (others ps k l apart group own)))
 
@@ -130,15 +130,15 @@ module _ (l : PriceList) (p : Price) where
     pub written_behind : take (l.count + 1) (set l.entries l.count p) ≡ prices_of l ++ p ∷ []
     written_behind = take_more_set l.entries l.count p (omega (arith, length_prices l))
 
-    pub apart-behind : any (is_for p.group) (prices_of l) ≡ false → Apart (take (l.count + 1) (set l.entries l.count p))
-    apart-behind fresh = rw written_behind (apart_push (prices_of l) p fresh l.apart)
+    pub apart_behind : any (is_for p.group) (prices_of l) ≡ false → Apart (take (l.count + 1) (set l.entries l.count p))
+    apart_behind fresh = rw written_behind (apart_push (prices_of l) p fresh l.apart)
 
   module _ (k : ℕ) (listed : k < length (prices_of l)) where
     pub written_over : take l.count (set l.entries k p) ≡ set (prices_of l) k p
     written_over = take-set-lt l.count l.entries k p (omega (arith, length_prices l))
 
-    pub apart-over : is_for p.group (get_or (prices_of l) k no_price) ≡ true → Apart (take l.count (set l.entries k p))
-    apart-over own = rw written_over (apart_set (prices_of l) k listed l.apart p own)
+    pub apart_over : is_for p.group (get_or (prices_of l) k no_price) ≡ true → Apart (take l.count (set l.entries k p))
+    apart_over own = rw written_over (apart_set (prices_of l) k listed l.apart p own)
 
 -- the part of the table from the place to the last price, turned left by one, has the price of the place last
 module _ (l : PriceList) (k : ℕ) (listed : k < length (prices_of l)) (ys : List Price)

@@ -47,25 +47,25 @@ module _ (n : ℕ) (ps : List Price) (old : KeptPrices n ps) where
       (all_kept_by test (KeptPrice n) ps each) (apart_kept_by price_group test ps old.2)
 
   module _ (new : Price) (kept : KeptPrice n new) where
-    each-changed : AllByRecursion (λ p. KeptPrice n (changed new p)) ps
-    each-changed =
+    each_changed : AllByRecursion (λ p. KeptPrice n (changed new p)) ps
+    each_changed =
         All-weaker (KeptPrice n) (λ p. KeptPrice n (changed new p))
         (λ p h. cond_both (is_for new.group p) new p (KeptPrice n) (λ _. kept) (λ _. h)) ps each
 
-    kept-changed : KeptPrices n (map (changed new) ps)
-    kept-changed =
+    kept_changed : KeptPrices n (map (changed new) ps)
+    kept_changed =
         kept_list n (map (changed new) ps) (omega (arith, length-map ps (changed new)))
-        (All-map (KeptPrice n) (changed new) ps each-changed) (subst Apart (groups_changed new ps) old.2)
+        (All-map (KeptPrice n) (changed new) ps each_changed) (subst Apart (groups_changed new ps) old.2)
 
-    kept-pushed : length ps < most_prices → any (is_for new.group) ps ≡ false → KeptPrices n (ps ++ new ∷ [])
-    kept-pushed room fresh =
+    kept_pushed : length ps < most_prices → any (is_for new.group) ps ≡ false → KeptPrices n (ps ++ new ∷ [])
+    kept_pushed room fresh =
         kept_list n (ps ++ new ∷ []) (omega (arith, length_push ps new)) (All-push (KeptPrice n) ps new each kept)
         (rw map_push (apart_push (map price_group ps) new.group (unlisted new.group ps fresh) old.2))
 
     kept_set : (any (is_for new.group) ps ≡ false → length ps < most_prices)
         → KeptPrices n (cond (any (is_for new.group) ps) (map (changed new) ps) (ps ++ new ∷ []))
     kept_set room =
-        cond_both (any (is_for new.group) ps) _ _ (KeptPrices n) (λ _. kept-changed) (λ fresh. kept-pushed (room fresh) fresh)
+        cond_both (any (is_for new.group) ps) _ _ (KeptPrices n) (λ _. kept_changed) (λ fresh. kept_pushed (room fresh) fresh)
 
 kept_new : (l : Ledger) (amount : ℤ) (group : ℕ) → FitPrice l amount group → is_zero amount ≡ false
     → KeptPrice (spots l) (price_of amount group)

@@ -166,28 +166,28 @@ module _ (o : Operation) (xs : List ℤ) (taken : table_refusal xs ≡ None) (ma
   lower_taken = ap table_refusal lower_lent_is ∙ half_taken (take (2 ^ k) xs) (length_lower o k xs twice) lower_near
 
   module _ (ys : List ℤ) (first : ys ≡ converted o (take (length xs / 2 - 0) xs)) where
-    first-is : ys ≡ converted o (take (2 ^ k) xs)
+    first_is : ys ≡ converted o (take (2 ^ k) xs)
     unfolding half
-    first-is = first ∙ ap (converted o) lower_lent_is
+    first_is = first ∙ ap (converted o) lower_lent_is
 
-    first-long : length ys ≡ half
-    first-long = ap length first-is ∙ length_lower_converted o k xs twice ∙ sym half_is
+    first_long : length ys ≡ half
+    first_long = ap length first_is ∙ length_lower_converted o k xs twice ∙ sym half_is
 
     second_is : upper_lent half xs ys ≡ drop (2 ^ k) xs
-    second_is = upper_lent_is half xs ys first-long ∙ ap (λ n. drop n xs) half_is
+    second_is = upper_lent_is half xs ys first_long ∙ ap (λ n. drop n xs) half_is
 
-    pub upper-shorter : length (upper_lent (length xs / 2) xs ys) < length xs
+    pub upper_shorter : length (upper_lent (length xs / 2) xs ys) < length xs
     unfolding half
-    upper-shorter = omega (arith, ap length second_is, length_upper o k xs twice, twice, pow_pos k)
+    upper_shorter = omega (arith, ap length second_is, length_upper o k xs twice, twice, pow_pos k)
 
-    pub upper-taken : table_refusal (upper_lent (length xs / 2) xs ys) ≡ None
+    pub upper_taken : table_refusal (upper_lent (length xs / 2) xs ys) ≡ None
     unfolding half
-    upper-taken = ap table_refusal second_is ∙ half_taken (drop (2 ^ k) xs) (length_upper o k xs twice) upper_near
+    upper_taken = ap table_refusal second_is ∙ half_taken (drop (2 ^ k) xs) (length_upper o k xs twice) upper_near
 
     module _ (zs : List ℤ) (second : zs ≡ converted o (upper_lent (length xs / 2) xs ys)) where
       both_is : with_both half xs ys zs ≡ converted o (take (2 ^ k) xs) ++ converted o (drop (2 ^ k) xs)
       unfolding half
-      both_is = with_both_is half xs ys first-long zs ∙ ap₂ ◌++◌ first-is (second ∙ ap (converted o) second_is)
+      both_is = with_both_is half xs ys first_long zs ∙ ap₂ ◌++◌ first_is (second ∙ ap (converted o) second_is)
 
       pub both_long : length (with_both (length xs / 2) xs ys zs) ≡ length xs / 2 + length xs / 2
       unfolding half
@@ -195,9 +195,9 @@ module _ (o : Operation) (xs : List ℤ) (taken : table_refusal xs ≡ None) (ma
           let sides = length-append (converted o (take (2 ^ k) xs)) (converted o (drop (2 ^ k) xs)) in
           ap length both_is ∙ omega (arith, sides, length_lower_converted o k xs twice, length_upper_converted o k xs twice, half_is)
 
-      pub both-near : AllByRecursion (λ z. nat_abs z < 2 ^ 62) (with_both (length xs / 2) xs ys zs)
+      pub both_near : AllByRecursion (λ z. nat_abs z < 2 ^ 62) (with_both (length xs / 2) xs ys zs)
       unfolding half
-      both-near =
+      both_near =
           subst (AllByRecursion (λ z. nat_abs z < 2 ^ 62)) (sym both_is)
           (All-append (λ z. nat_abs z < 2 ^ 62) (converted o (take (2 ^ k) xs)) (converted o (drop (2 ^ k) xs))
           (half_near (take (2 ^ k) xs) (length_lower o k xs twice) lower_near)

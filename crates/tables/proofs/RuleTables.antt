@@ -127,16 +127,16 @@ module _ (ts : List Term) (below : named ts < 2 ^ 32) where
 
   module _ (vs : List ℤ) (sums : HoldsSums ts vs) where
     -- what holds of the sum at each line-up holds of each entry
-    of-entries : (P : ℕ → ℤ → Type 0) → ((x : ℕ) → P (packed (named ts) x) (worth ts x)) → (c : ℕ) → c < length vs → P c (get_or vs c (pos 0))
-    of-entries P each c l =
+    of_entries : (P : ℕ → ℤ → Type 0) → ((x : ℕ) → P (packed (named ts) x) (worth ts x)) → (c : ℕ) → c < length vs → P c (get_or vs c (pos 0))
+    of_entries P each c l =
         let (x, under, same) = packed_onto (named ts) c below (rw sums.0 at l) in
         subst (λ d. P d (get_or vs d (pos 0))) same (rw (sums.1 x under) (each x))
 
-    only-sums : vs ≡ values (rule_table ts)
-    only-sums =
+    only_sums : vs ≡ values (rule_table ts)
+    only_sums =
         let f = worth (as_terms (rule_table ts)) in
         let alike = sums.0 ∙ sym (table_long ts) in
-        tabulated_from _ f vs alike (λ c l. of-entries (λ d z. z ≡ f d) (λ x. sym (worth_table x)) c (rw alike l))
+        tabulated_from _ f vs alike (λ c l. of_entries (λ d z. z ≡ f d) (λ x. sym (worth_table x)) c (rw alike l))
 
 pub has_table : (ts : List Term) → named ts < 2 ^ 32 → size (named ts) ≤ most_table_spots → length ts ≤ most_terms
     → AllByRecursion (λ t. nat_abs t.coefficient ≤ most_coefficient) ts
@@ -166,8 +166,8 @@ has_table ts below few short near apart = record {
 
     sums-taken : (vs : List ℤ) → HoldsSums ts vs → table_refusal vs ≡ None
     sums-taken vs sums =
-        let each = All-from_get_or (λ z. nat_abs z ≤ most_entry) vs (pos 0) (of-entries ts below vs sums (λ _ z. nat_abs z ≤ most_entry) worth-near) in
+        let each = All-from_get_or (λ z. nat_abs z ≤ most_entry) vs (pos 0) (of_entries ts below vs sums (λ _ z. nat_abs z ≤ most_entry) worth-near) in
         accepted vs (size (named ts)) each sums.0 few
 
     restored : (vs : List ℤ) → HoldsSums ts vs → coefficients vs ≡ rule_table ts
-    restored vs sums = ap coefficients (only-sums ts below vs sums) ∙ coefficients_values (size (named ts)) (rule_table ts) (table_long ts)
+    restored vs sums = ap coefficients (only_sums ts below vs sums) ∙ coefficients_values (size (named ts)) (rule_table ts) (table_long ts)

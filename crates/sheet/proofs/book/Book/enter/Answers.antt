@@ -15,10 +15,10 @@ invariant_of-self c =
     let n = c.args.number in
     let lt : n < length b.rules = omega (arith, c.requires.number, b.size) in
     let used = c.append-start.ensures.used in
-    let from = c.append-start.ensures.from in (
-      length-set b.rules n _ ∙ b.size,
-      (within_some b.rules b.places.used c.append-start.new.self.used n _ (omega arith) lt (omega arith) b.within, tt),
-    )
+    let from = c.append-start.ensures.from in record {
+      size = length-set b.rules n _ ∙ b.size;
+      within = within_some b.rules b.places.used c.append-start.new.self.used n _ (omega arith) lt (omega arith) b.within;
+    }
 
 pub returns : goal.returns
 returns c =

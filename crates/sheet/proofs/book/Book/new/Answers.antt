@@ -9,7 +9,10 @@ use Rattle.sheet.proofs.book.Book.new.Goals as goal
 pub invariant_of-result : goal.invariant_of-result
 invariant_of-result c =
     let no_rule : Option Placed = None in
-    (refl, (λ k r e. let none = get_or_all 64 no_rule k in let z : ◌≡◌ {A = ℕ} 0 1 = cc in absurd (omega arith), tt))
+    record {
+      size = refl;
+      within = λ k r e. let none = get_or_all 64 no_rule k in let z : ◌≡◌ {A = ℕ} 0 1 = cc in absurd (omega arith);
+    }
 
 pub returns : goal.returns
 returns c =

@@ -15,10 +15,10 @@ low b n e = omega (arith, fit_withdraw (ledger b false) n (sym e), b.size)
 pub invariant_of-self : goal.invariant_of-self
 invariant_of-self c =
     let b = c.args.self.now in
-    let n = c.args.number in (
-      length-set b.rules n None ∙ b.size,
-      (within_none b.rules b.places.used n (low b n c.in_default.ensures) b.within, tt),
-    )
+    let n = c.args.number in record {
+      size = length-set b.rules n None ∙ b.size;
+      within = within_none b.rules b.places.used n (low b n c.in_default.ensures) b.within;
+    }
 
 pub returns : goal.returns
 returns c =

@@ -15,7 +15,7 @@ after c =
     c.copy_from_slice.ensures.after c.requires.room c.requires.named
 
 pub invariant_of-self : goal.invariant_of-self
-invariant_of-self c = ((after c).size, ((after c).few, ((after c).filled, tt)))
+invariant_of-self c = record { size = (after c).size; few = (after c).few; filled = (after c).filled }
 
 pub returns : goal.returns
 returns c = record {

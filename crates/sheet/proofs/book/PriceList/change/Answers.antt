@@ -1,11 +1,11 @@
 use Rattle.std.proofs.Common.{w32, rules}
 use Rattle.std.proofs.lemmas.Int.{to_z-of_z}
 use Rattle.sheet.specs.Ledger.{price_of}
-use Rattle.sheet.proofs.PriceLists.{written_over, apart-over}
+use Rattle.sheet.proofs.PriceLists.{written_over, apart_over}
 use Rattle.sheet.proofs.book.PriceList.change.Goals as goal
 
 pub invariant_of-self : goal.invariant_of-self
-invariant_of-self c = (search rules, (search rules, (apart-over c.args.self.now _ c.args.at c.requires.listed c.requires.own_val, tt)))
+invariant_of-self c = record { size = search rules; few = search rules; apart = apart_over c.args.self.now _ c.args.at c.requires.listed c.requires.own }
 
 pub returns : goal.returns
 returns c =

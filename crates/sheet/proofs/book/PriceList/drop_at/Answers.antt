@@ -9,7 +9,11 @@ invariant_of-self c =
     let at = c.args.at in
     let ys = c.rotate_left.new.self in
     let turned = c.rotate_left.ensures in
-    (same_len_mid at (l.count - at) l.entries ys turned.len ∙ l.size, (search rules, (apart_out l at c.requires ys turned.after, tt)))
+    record {
+      size = same_len_mid at (l.count - at) l.entries ys turned.len ∙ l.size;
+      few = search rules;
+      apart = apart_out l at c.requires ys turned.after;
+    }
 
 pub returns : goal.returns
 returns c = turned_out c.args.self.now c.args.at c.requires c.rotate_left.new.self c.rotate_left.ensures.after

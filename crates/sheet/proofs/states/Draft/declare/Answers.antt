@@ -10,4 +10,4 @@ invariant_of-self c =
     let l = ledger d.book false in
     let m = ledger c.declare.new.self false in
     let call = Declares c.args.house in
-    (told_step l m call d.told c.declare.ensures.after, (kept_after l m call d.kept c.declare.ensures.after, tt))
+    record { told = told_step l m call d.told c.declare.ensures.after; kept = kept_after l m call d.kept c.declare.ensures.after }

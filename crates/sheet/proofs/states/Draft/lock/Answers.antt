@@ -9,4 +9,4 @@ invariant_of-result c =
     let s = c.args.self in
     let l = ledger s.book false in
     let m = ledger s.book true in
-    (told_step l m Locks s.told refl, (kept_after l m Locks s.kept refl, tt))
+    record { told = told_step l m Locks s.told refl; kept = kept_after l m Locks s.kept refl }

@@ -6,4 +6,4 @@ use Rattle.sheet.proofs.states.Draft.new.Goals as goal
 pub invariant_of-result : goal.invariant_of-result
 invariant_of-result c =
     let l = ledger c.new.result false in
-    (told_new l c.new.ensures, (kept_new l c.new.ensures, tt))
+    record { told = told_new l c.new.ensures; kept = kept_new l c.new.ensures }

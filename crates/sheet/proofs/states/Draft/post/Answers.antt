@@ -10,4 +10,4 @@ invariant_of-self c =
     let l = ledger d.book false in
     let m = ledger c.post.new.self false in
     let call = Posts (posting c.args.number c.args.relation (to_z w32 (of_z w32 c.args.bound)) c.args.terms.now) in
-    (told_step l m call d.told c.post.ensures.after, (kept_after l m call d.kept c.post.ensures.after, tt))
+    record { told = told_step l m call d.told c.post.ensures.after; kept = kept_after l m call d.kept c.post.ensures.after }

@@ -10,4 +10,4 @@ invariant_of-self c =
     let l = ledger d.book false in
     let m = ledger c.price.new.self false in
     let call = Prices (to_z w32 (of_z w32 c.args.amount)) c.args.group in
-    (told_step l m call d.told c.price.ensures.after, (kept_after l m call d.kept c.price.ensures.after, tt))
+    record { told = told_step l m call d.told c.price.ensures.after; kept = kept_after l m call d.kept c.price.ensures.after }

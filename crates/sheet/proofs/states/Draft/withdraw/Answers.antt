@@ -10,4 +10,4 @@ invariant_of-self c =
     let l = ledger d.book false in
     let m = ledger c.withdraw.new.self false in
     let call = Withdraws c.args.number in
-    (told_step l m call d.told c.withdraw.ensures.after, (kept_after l m call d.kept c.withdraw.ensures.after, tt))
+    record { told = told_step l m call d.told c.withdraw.ensures.after; kept = kept_after l m call d.kept c.withdraw.ensures.after }

@@ -9,4 +9,4 @@ invariant_of-result c =
     let s = c.args.self in
     let l = ledger s.book true in
     let m = ledger s.book false in
-    (told_step l m Unlocks s.told refl, (kept_after l m Unlocks s.kept refl, tt))
+    record { told = told_step l m Unlocks s.told refl; kept = kept_after l m Unlocks s.kept refl }
