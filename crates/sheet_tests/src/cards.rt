@@ -60,7 +60,7 @@ fn spots_are_pinned_and_cleared(rt: HostRuntime) -> Result<(), Fail> {
             None => card.unpin(spot),
         };
         assert_eq!(rt; got, answer);
-        assert_eq!(rt; pins_of(&rt, heap, &card)?, pins);
+        assert_eq!(rt; pins_of(&rt, heap, &card)?.as_slice(), pins);
     }
     Ok(())
 }
@@ -97,16 +97,25 @@ fn a_history_of_pins_is_replayed(rt: HostRuntime) -> Result<(), Fail> {
     for pinning in history {
         made.push(card.make(pinning))?;
     }
-    assert_eq!(rt; pins_of(&rt, heap, &card)?, [(0, In), (3, Out)]);
+    assert_eq!(rt;
+        pins_of(&rt, heap, &card)?.as_slice(),
+        [(0, In), (3, Out)].as_slice()
+    );
     for room in 0..10 {
         let mut answers = vec![in heap; Err(Short); room]?;
         let replayed = replay_pins(&history, &mut answers);
-        assert_eq!(rt; pins_of(&rt, heap, &replayed)?, [(0, In), (3, Out)]);
+        assert_eq!(rt;
+            pins_of(&rt, heap, &replayed)?.as_slice(),
+            [(0, In), (3, Out)].as_slice()
+        );
         for (i, answer) in answers.iter().enumerate() {
             assert_eq!(rt; *answer, made.get(i).copied().unwrap_or(Err(Short)));
         }
     }
     let off = Err(OffSheet);
-    assert_eq!(rt; made, [Ok(()), off, Ok(()), Ok(()), off, Ok(()), Ok(())]);
+    assert_eq!(rt;
+        made.as_slice(),
+        [Ok(()), off, Ok(()), Ok(()), off, Ok(()), Ok(())].as_slice()
+    );
     Ok(())
 }

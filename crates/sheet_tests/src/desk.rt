@@ -1,6 +1,7 @@
 // What the tests share: calls in short, all that a sheet holds, and stories of calls with their answers.
 use lineup::*;
 use std::alloc::{AllocError, Global};
+use std::fmt::Display;
 use std::mem::replace;
 use std::process::Abort;
 use std::test::Fail;
@@ -171,10 +172,22 @@ pub fn tell(
     booking: Booking<'_>,
     answer: Answer,
 ) -> Result<(), Fail> {
+    tell_noted(rt, heap, draft, booking, answer, "one call")
+}
+
+// The same, where a failure says which call it was.
+pub fn tell_noted<N: Display + Drop>(
+    rt: &impl Abort,
+    heap: Global,
+    draft: &mut Draft,
+    booking: Booking<'_>,
+    answer: Answer,
+    note: N,
+) -> Result<(), Fail> {
     let before = look_into(heap, draft)?;
-    assert_eq!(rt; call(draft, booking), answer);
+    assert_eq!(rt; call(draft, booking), answer, "{note}");
     if let Answer::Refused(_) = answer {
-        assert_eq!(rt; look_into(heap, draft)?, before);
+        assert_eq!(rt; look_into(heap, draft)?, before, "{note}");
     }
     Ok(())
 }
@@ -187,7 +200,7 @@ pub fn story(
     calls: &[(Booking<'_>, Answer)],
 ) -> Result<(), Fail> {
     for (i, (booking, answer)) in calls.iter().enumerate() {
-        tell(rt, heap, draft, *booking, *answer).note(format_args!("call {i}"))?;
+        tell_noted(rt, heap, draft, *booking, *answer, format_args!("call {i}"))?;
     }
     Ok(())
 }

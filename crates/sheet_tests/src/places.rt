@@ -5,6 +5,7 @@ use lineup::Refusal::*;
 use lineup::*;
 use std::alloc::Global;
 use std::process::Abort;
+use std::test::Fail;
 
 // Posts an at-most rule of this many terms, whose groups are the numbers from 1 on.
 fn post_terms(
@@ -16,7 +17,14 @@ fn post_terms(
     answer: Answer,
 ) -> Result<(), Fail> {
     let terms = terms_of(heap, count)?;
-    tell(rt, heap, draft, post(number, 1, 40, &terms), answer).note(format_args!("{count} terms"))
+    tell_noted(
+        rt,
+        heap,
+        draft,
+        post(number, 1, 40, &terms),
+        answer,
+        format_args!("{count} terms"),
+    )
 }
 
 #[test]
@@ -44,7 +52,7 @@ fn a_rule_has_64_terms(rt: HostRuntime) -> Result<(), Fail> {
     let held = look_into(heap, &mut draft)?;
     assert_eq!(rt; held.unused_places, 448);
     let rule = rule_of(0, Relation::AtMost, 40, terms_of(heap, 64)?);
-    assert_eq!(rt; held.rules, [rule]);
+    assert_eq!(rt; held.rules.as_slice(), [rule].as_slice());
     Ok(())
 }
 
@@ -88,6 +96,6 @@ fn rebooking_uses_up_the_places(rt: HostRuntime) -> Result<(), Fail> {
     let held = look_into(heap, &mut draft)?;
     assert_eq!(rt; held.unused_places, 0);
     let rule = rule_of(0, Relation::AtMost, 40, terms_of(heap, 2)?);
-    assert_eq!(rt; held.rules, [rule]);
+    assert_eq!(rt; held.rules.as_slice(), [rule].as_slice());
     Ok(())
 }

@@ -4,6 +4,7 @@ use lineup::Answer::*;
 use lineup::Refusal::*;
 use lineup::*;
 use std::alloc::{AllocError, Global};
+use std::test::Fail;
 
 // The price list as amounts and groups.
 fn list_of(heap: Global, draft: &mut Draft) -> Result<Vec<(i32, u32)>, AllocError> {
@@ -41,7 +42,7 @@ fn amounts_and_groups_have_limits(rt: HostRuntime) -> Result<(), Fail> {
     ];
     story(&rt, heap, &mut draft, &calls)?;
     let list = [(1, 1), (-1, 0x800), (1_000_000, 3), (-1_000_000, 0x3ff)];
-    assert_eq!(rt; list_of(heap, &mut draft)?, list);
+    assert_eq!(rt; list_of(heap, &mut draft)?.as_slice(), list.as_slice());
     Ok(())
 }
 
@@ -70,7 +71,7 @@ fn the_list_keeps_its_order(rt: HostRuntime) -> Result<(), Fail> {
     let mut draft = draft_of(&rt, 3);
     for (amount, group, list) in STEPS {
         tell(&rt, heap, &mut draft, price(amount, group), Done)?;
-        assert_eq!(rt; list_of(heap, &mut draft)?, list);
+        assert_eq!(rt; list_of(heap, &mut draft)?.as_slice(), list);
     }
     Ok(())
 }

@@ -6,6 +6,7 @@ use lineup::Refusal::*;
 use lineup::*;
 use std::alloc::{AllocError, Global};
 use std::process::Abort;
+use std::test::Fail;
 
 // A history that ends on a locked sheet, with its answers.
 fn history() -> [(Booking<'static>, Answer); 25] {

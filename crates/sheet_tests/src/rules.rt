@@ -5,6 +5,7 @@ use lineup::Refusal::*;
 use lineup::*;
 use std::alloc::Global;
 use std::process::Abort;
+use std::test::Fail;
 
 // A rule's number, relation, bound and terms, and the answer to its posting. A term is given by its
 // coefficient and its group.
@@ -20,7 +21,14 @@ fn post_all(
         let (number, relation, bound, pairs, answer) = *posting;
         let terms = terms_from(heap, pairs)?;
         let booking = post(number, relation, bound, &terms);
-        tell(rt, heap, draft, booking, answer).note(format_args!("posting {i}"))?;
+        tell_noted(
+            rt,
+            heap,
+            draft,
+            booking,
+            answer,
+            format_args!("posting {i}"),
+        )?;
     }
     Ok(())
 }
@@ -49,7 +57,7 @@ fn a_rule_within_its_limits_stands_as_posted(rt: HostRuntime) -> Result<(), Fail
         let held = look_into(heap, &mut draft)?;
         let relation = Relation::of_number(relation).ok_or("no relation")?;
         let rule = rule_of(number, relation, bound, terms_from(heap, pairs)?);
-        assert_eq!(rt; held.rules, [rule]);
+        assert_eq!(rt; held.rules.as_slice(), [rule].as_slice());
         assert_eq!(rt; held.unused_places.wrapping_add(pairs.len()), 512);
     }
     Ok(())
@@ -189,6 +197,6 @@ fn a_rule_is_withdrawn_once(rt: HostRuntime) -> Result<(), Fail> {
     let old = terms_from(heap, &[(2, 2), (3, 3)])?;
     let first = rule_of(0, Relation::AtLeast, 4, new);
     let last = rule_of(63, Relation::AtMost, 2, old);
-    assert_eq!(rt; held.rules, [first, last]);
+    assert_eq!(rt; held.rules.as_slice(), [first, last].as_slice());
     Ok(())
 }

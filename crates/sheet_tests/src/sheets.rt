@@ -2,6 +2,7 @@
 use crate::desk::*;
 use lineup::Answer::*;
 use lineup::*;
+use std::test::Fail;
 
 #[test]
 fn a_new_sheet_is_empty(rt: HostRuntime) {
@@ -40,12 +41,12 @@ fn an_unlocked_sheet_takes_bookings_again(rt: HostRuntime) -> Result<(), Fail> {
     ];
     story(&rt, heap, &mut draft, &second)?;
     let locked = draft.lock();
-    assert_eq!(rt; locked.houses(), &[1000, 1001, 9]);
+    assert_eq!(rt; locked.houses(), [1000, 1001, 9].as_slice());
     assert!(rt; locked.rule(0).is_none());
     let rule = locked.rule(1).ok_or("no rule")?;
     assert_eq!(rt; rule.relation, Relation::AtLeast);
     assert_eq!(rt; rule.bound, 3);
-    assert_eq!(rt; rule.terms, &PAIR);
+    assert_eq!(rt; rule.terms, PAIR.as_slice());
     assert_eq!(rt; locked.prices().len(), 2);
     assert_eq!(rt; locked.unused_places(), 508);
     Ok(())

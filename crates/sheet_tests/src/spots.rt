@@ -3,6 +3,7 @@ use crate::desk::*;
 use lineup::Answer::*;
 use lineup::Refusal::*;
 use lineup::*;
+use std::test::Fail;
 
 #[test]
 fn a_house_number_is_declared_once(rt: HostRuntime) -> Result<(), Fail> {
@@ -18,7 +19,7 @@ fn a_house_number_is_declared_once(rt: HostRuntime) -> Result<(), Fail> {
         (declare(1), Spot(3)),
     ];
     story(&rt, rt.alloc(), &mut draft, &calls)?;
-    assert_eq!(rt; draft.lock().houses(), &[0, u32::MAX, 7, 1]);
+    assert_eq!(rt; draft.lock().houses(), [0, u32::MAX, 7, 1].as_slice());
     Ok(())
 }
 

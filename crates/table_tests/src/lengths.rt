@@ -2,6 +2,7 @@
 use crate::ways::*;
 use lineup::Refusal::*;
 use std::alloc::{AllocError, Global};
+use std::test::Fail;
 
 // The table whose entry g is 7 more than g.
 fn rising(heap: Global, length: u32) -> Result<Vec<i64>, AllocError> {

@@ -1,5 +1,6 @@
 // Tests of tables of terms with the tables of their values.
 use crate::ways::*;
+use std::test::Fail;
 
 // Terms, and their values.
 const PAIRS: [(&[i64], &[i64]); 6] = [

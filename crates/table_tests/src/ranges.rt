@@ -2,6 +2,7 @@
 use crate::ways::*;
 use lineup::Refusal::*;
 use std::alloc::{AllocError, Global};
+use std::test::Fail;
 
 const MOST: i64 = 1_000_000_000_000_000;
 

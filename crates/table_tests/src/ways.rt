@@ -38,7 +38,7 @@ pub fn turns(
 ) -> Result<(), Fail> {
     let mut table = from.to_vec(heap)?;
     assert_eq!(rt; way.convert(&mut table), Ok(()));
-    assert_eq!(rt; table, to);
+    assert_eq!(rt; table.as_slice(), to);
     Ok(())
 }
 
@@ -54,7 +54,7 @@ pub fn restored(rt: &impl Abort, heap: Global, from: &[i64]) -> Result<(), Fail>
         let mut table = from.to_vec(heap)?;
         assert_eq!(rt; way.convert(&mut table), Ok(()));
         assert_eq!(rt; way.back().convert(&mut table), Ok(()));
-        assert_eq!(rt; table, from);
+        assert_eq!(rt; table.as_slice(), from);
     }
     Ok(())
 }
@@ -64,7 +64,7 @@ pub fn refused(rt: &impl Abort, heap: Global, from: &[i64], refusal: Refusal) ->
     for way in WAYS {
         let mut table = from.to_vec(heap)?;
         assert_eq!(rt; way.convert(&mut table), Err(refusal));
-        assert_eq!(rt; table, from);
+        assert_eq!(rt; table.as_slice(), from);
     }
     Ok(())
 }
