@@ -37,7 +37,7 @@ impl Count {
         self.converted = self.converted.wrapping_add(1);
         let answer = way.back().convert(&mut converted);
         if is_in_range(&expected) {
-            if answer == Ok(()) && converted == table {
+            if answer == Ok(()) && converted.as_slice() == table {
                 self.restored = self.restored.wrapping_add(1);
             }
         } else if answer == Err(Refusal::OutOfRange) && converted == expected {
