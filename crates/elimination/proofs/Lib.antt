@@ -2,4 +2,4 @@ pub mod Prefixes
 pub mod Locality
 pub mod Reduction
 pub mod Solutions
-pub mod Lawfulness
+pub mod Needs

@@ -2,7 +2,6 @@
 #![tactic(auto)]
 
 pub mod codes;
-pub mod laws;
 pub mod limits;
 pub mod plans;
 mod reading;
