@@ -1,17 +1,10 @@
 -- What a history tells, and what a sheet in its type keeps, one call further.
-use Rattle.std.proofs.Common.{◌≡◌, ℕ, List, [], ◌∷◌, ◌++◌, map, length, get_or, sym, ap, ◌∙◌, subst}
+use Rattle.std.proofs.Common.{◌≡◌, ℕ, List, [], ◌∷◌, ◌++◌, sym, ap, ◌∙◌, subst}
 use mathlib.Core.Logic.{∥∥₁_elim, ∥∥₁_map}
-use base.Stored.{coded_ℕ}
 use denote.Struct.Props.{props}
-use denote.Struct.Record.{Also-prop}
-use native.Mathlib.Bridge.{le_prop}
-use std.HLevel.{Π_prop}
 use Rattle.std.proofs.lemmas.List.Sums.{fold_push}
-use Rattle.terms.specs.Terms.{group_of, no_term}
 use Rattle.terms.specs.declared.polynomials.Term.{Term}
 use Rattle.sheet.specs.declared.prices.Price.{Price}
-use Rattle.sheet.specs.Limits.{place_count}
-use Rattle.sheet.specs.Layout.{price_group, no_price}
 use Rattle.sheet.specs.Ledger.{Ledger, Contents, Call, step, empty_ledger, Told}
 use Rattle.sheet.specs.Kept.{Apart, Spotted, KeptTerms, KeptRules, KeptPrices, Kept}
 use Rattle.sheet.proofs.Keeps.{kept_empty, kept_step}

@@ -1,5 +1,5 @@
 -- The steps of a loop over the spots of a mask, the lowest first: `bit_and m (m - 1)` is the mask without its lowest spot.
-use Rattle.std.proofs.Common.{◌≡◌, ℕ, zero, suc, ◌+◌, ◌-◌, ◌*◌, ◌/◌, ◌%◌, ◌^◌, ◌<◌, ◌⊎◌, ap, ◌∙◌, mul_assoc, pow-suc, one-add, arith}
+use Rattle.std.proofs.Common.{◌≡◌, ℕ, zero, suc, ◌+◌, ◌-◌, ◌*◌, ◌/◌, ◌%◌, ◌^◌, ◌<◌, ◌⊎◌, ap, ◌∙◌, mul_assoc, pow-suc, arith}
 use lib.Arith.{bin_ind}
 use lib.Bits.{bit_and, and_step, and_self}
 use lib.Count.{ones_step, count_trailing_zeros}

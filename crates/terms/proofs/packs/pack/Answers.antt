@@ -3,7 +3,6 @@ use borrow.Author.Numbers.{trailing_lt}
 use lib.Bits.{bit_and}
 use lib.Count.{count_trailing_zeros, ones-le}
 use Rattle.std.proofs.lemmas.Nat.{pow-add, and_le_l}
-use Rattle.terms.specs.Groups.{size}
 use Rattle.terms.specs.Packing.{packed}
 use Rattle.terms.proofs.Packing.{packed_below, packed_none}
 use Rattle.terms.proofs.Lowest.{size_without, digits_lowest, digit_shifted}
