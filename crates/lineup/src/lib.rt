@@ -8,6 +8,6 @@ pub use sheet::{
 pub use tables::conversion::{to_terms, to_values};
 pub use tables::laws::tables_say_so;
 pub use tables::limits::{MOST_ENTRIES, MOST_ENTRY};
-pub use terms::laws::{any_says_so, groups_say_so};
+pub use terms::laws::{any_says_so, groups_say_so, relations_say_so};
 pub use terms::limits::{MOST_BOUND, MOST_COEFFICIENT, MOST_NAMED, MOST_TERMS, RELATION_COUNT};
 pub use terms::{Refusal, Relation, Term};

@@ -148,8 +148,8 @@ has_table ts below few short near apart = record {
   accepted = ap (λ o. answered o tt) taken;
   sums = subst (HoldsSums ts) (sym (ap (λ o. unless o (rule_table ts) (values (rule_table ts))) taken)) (holds_sums ts below);
   back = λ vs sums. (
-    ap (λ o. answered o tt) (sums-taken vs sums),
-    ap (λ o. unless o vs (coefficients vs)) (sums-taken vs sums) ∙ restored vs sums,
+    ap (λ o. answered o tt) (sums_taken vs sums),
+    ap (λ o. unless o vs (coefficients vs)) (sums_taken vs sums) ∙ restored vs sums,
   );
 }
   where
@@ -161,12 +161,12 @@ has_table ts below few short near apart = record {
     taken : table_refusal (rule_table ts) ≡ None
     taken = accepted (rule_table ts) (size (named ts)) (All-from_get_or (λ z. nat_abs z ≤ most_entry) (rule_table ts) (pos 0) entry_near) (table_long ts) few
 
-    worth-near : (x : ℕ) → nat_abs (worth ts x) ≤ most_entry
-    worth-near x = let sum = picked_near (λ us. worth us x) (λ t. inside t.group x) refl (λ _ _. refl) ts near in omega arith
+    worth_near : (x : ℕ) → nat_abs (worth ts x) ≤ most_entry
+    worth_near x = let sum = picked_near (λ us. worth us x) (λ t. inside t.group x) refl (λ _ _. refl) ts near in omega arith
 
-    sums-taken : (vs : List ℤ) → HoldsSums ts vs → table_refusal vs ≡ None
-    sums-taken vs sums =
-        let each = All-from_get_or (λ z. nat_abs z ≤ most_entry) vs (pos 0) (of_entries ts below vs sums (λ _ z. nat_abs z ≤ most_entry) worth-near) in
+    sums_taken : (vs : List ℤ) → HoldsSums ts vs → table_refusal vs ≡ None
+    sums_taken vs sums =
+        let each = All-from_get_or (λ z. nat_abs z ≤ most_entry) vs (pos 0) (of_entries ts below vs sums (λ _ z. nat_abs z ≤ most_entry) worth_near) in
         accepted vs (size (named ts)) each sums.0 few
 
     restored : (vs : List ℤ) → HoldsSums ts vs → coefficients vs ≡ rule_table ts
