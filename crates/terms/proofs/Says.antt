@@ -3,7 +3,6 @@ use Rattle.std.proofs.Common.{◌≡◌, ℕ, zero, suc, ◌+◌, ◌/◌, ◌%�
 use mathlib.Core.Path.{fun_ext}
 use mathlib.Core.Bool.{or-false, or_assoc}
 use native.Mathlib.Nat.{zero-div}
-use borrow.Author.Differences.{ints}
 use lib.Arith.{lt-one}
 use lib.Bits.{bit_and, bit_or, and_step, or_step}
 use lib.Count.{ones, ones_step, ones-ones}
@@ -14,7 +13,7 @@ use Rattle.std.proofs.lemmas.List.{get_or_default}
 use Rattle.std.proofs.lemmas.Bool.{false≢true, cases_lt, not-true, and_parts, and_from, or_parts, eq-eqb, eqb-true, leb-true}
 use Rattle.terms.specs.Tests.{any, repeats}
 use Rattle.terms.specs.Groups.{holds, beyond}
-use Rattle.terms.specs.Laws.{AnySays, RepeatsSays, BeyondSays, TopsSays, UnionSays, SizeSays, MeetsSays, passing}
+use Rattle.terms.specs.Laws.{AnySays, RepeatsSays, BeyondSays, TopsSays, UnionSays, SizeSays, passing}
 
 pub any_says : {X : Type 0} → AnySays X
 any_says {X} f xs = Decides-by_or f (λ x. f x ≡ true) (any f) (λ x. ((λ h. h), (λ h. h))) refl (λ _ _. refl) xs
@@ -137,10 +136,3 @@ size_says (suc n) g h =
     let rest = size_says n (g / 2) (omega (arith, pow-suc 2 n)) ∙ ap (passing n) (fun_ext (holds_half g)) in
     let lowest : g % 2 ≡ cond (holds g 0) 1 0 = grind (arith, nat_tests) in
     omega (arith, ones_step g, passing_low n (holds g))
-
-pub meets_says : MeetsSays
-meets_says bound sum = (
-  (λ h. grind (arith, ints, nat_tests), λ h. grind (arith, ints, nat_tests)),
-  (λ h. grind (arith, ints, nat_tests), λ h. grind (arith, ints, nat_tests)),
-  (λ h. grind (arith, ints, nat_tests), λ h. grind (arith, ints, nat_tests)),
-)

@@ -1,10 +1,10 @@
 -- Tests of a list: whether some element passes, and whether one stands twice.
 use Rattle.std.specs.Prelude.{ℕ, Bool, true, false, ◌||◌, List, [], ◌∷◌, nat_eq}
+use Rattle.std.specs.List.{list_any}
 
 -- some element passes the test
 abbrev pub any : {X : Type 0} → (X → Bool) → List X → Bool
-any f [] = false
-any f (x ∷ xs) = f x || any f xs
+any f xs = list_any f xs
 
 -- some number stands twice
 abbrev pub repeats : List ℕ → Bool

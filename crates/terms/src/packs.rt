@@ -1,4 +1,6 @@
 // Packing: the spots of a group renumbered by their order within another group.
+// Both loops pick the lowest spot of a mask by its trailing zeros, a required form (docs/DECISIONS.md), and take it off. An iterator over the spots
+// of a mask would be a type with laws of its own for two loops of a few lines, and a chain over all 32 spots would take 32 turns.
 ghost use Rattle.std.specs.Prelude.{◌≡◌};
 ghost use Rattle.terms.specs.Packing.{packed, unpacked};
 

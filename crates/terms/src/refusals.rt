@@ -1,22 +1,25 @@
 // The refusals that a call can answer, each with its number and its word.
-ghost use Rattle.std.specs.Prelude.{◌≡◌};
+ghost use Rattle.std.specs.Prelude.{◌≡◌, Some};
 ghost use Rattle.terms.specs.Refusals.{refusal_number, refusal_word};
+
+use std::error::Error;
+use std::fmt;
 
 // Why a call was refused. Every refused call leaves everything as it was, except that "no line-up" leaves its tables filled.
 #[derive(Clone, Copy, PartialEq, Eq, Debug)]
 pub enum Refusal {
-    OffSheet,
-    Full,
-    Twice,
-    Blank,
-    OutOfRange,
-    Crowded,
-    NotLive,
-    TooWide,
-    Short,
-    NoLineUp,
-    NotListed,
-    OddLength,
+    OffSheet = 1,
+    Full = 2,
+    Twice = 3,
+    Blank = 4,
+    OutOfRange = 5,
+    Crowded = 6,
+    NotLive = 7,
+    TooWide = 8,
+    Short = 9,
+    NoLineUp = 10,
+    NotListed = 11,
+    OddLength = 12,
 }
 
 impl Refusal {
@@ -24,20 +27,7 @@ impl Refusal {
     pub fn number(self) -> u8
         ensures { result ≡ refusal_number self }
     {
-        match self {
-            Refusal::OffSheet => 1,
-            Refusal::Full => 2,
-            Refusal::Twice => 3,
-            Refusal::Blank => 4,
-            Refusal::OutOfRange => 5,
-            Refusal::Crowded => 6,
-            Refusal::NotLive => 7,
-            Refusal::TooWide => 8,
-            Refusal::Short => 9,
-            Refusal::NoLineUp => 10,
-            Refusal::NotListed => 11,
-            Refusal::OddLength => 12,
-        }
+        self as u8
     }
 
     // The refusal in words.
@@ -60,3 +50,14 @@ impl Refusal {
         }
     }
 }
+
+// A refusal prints as its word.
+impl fmt::Display for Refusal {
+    ghost output = { λ refusal. Some (refusal_word refusal) };
+
+    fn fmt<W: fmt::Write>(&self, f: &mut fmt::Formatter<W>) -> fmt::Result {
+        f.write_str(self.word())
+    }
+}
+
+impl Error for Refusal {}

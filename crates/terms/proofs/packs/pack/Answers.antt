@@ -1,5 +1,4 @@
 use Rattle.std.proofs.Common.{◌≡◌, ◌+◌, ◌-◌, ◌*◌, ◌/◌, ◌%◌, ◌^◌, ◌<◌, ap, ◌∙◌, mul_assoc, mul_comm, mul-add, arith, pow_mono}
-use borrow.Author.Numbers.{trailing_lt}
 use lib.Bits.{bit_and}
 use lib.Count.{count_trailing_zeros, ones-le}
 use Rattle.std.proofs.lemmas.Nat.{pow-add, and_le_l}
@@ -7,9 +6,6 @@ use Rattle.terms.specs.Packing.{packed}
 use Rattle.terms.proofs.Packing.{packed_below, packed_none}
 use Rattle.terms.proofs.Lowest.{size_without, digits_lowest, digit_shifted}
 use Rattle.terms.proofs.packs.pack.Goals as goal
-
-pub overflow_shr-index : goal.overflow_shr-index
-overflow_shr-index c = trailing_lt 32 c.loop-left.left (omega arith) (omega arith)
 
 pub overflow_shl-index : goal.overflow_shl-index
 overflow_shl-index c = omega (arith, c.loop-left.invariant.1, size_without c.loop-left.left (omega arith))

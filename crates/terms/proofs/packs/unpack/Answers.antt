@@ -20,9 +20,6 @@ turn c =
     let small : m < 2 ^ 32 = omega arith in
     omega (arith, onto_lowest 32 m d some small, digit_shifted d (count_trailing_zeros 32 m) (trailing_lt 32 m some small))
 
-pub overflow_shl-group : goal.overflow_shl-group
-overflow_shl-group c = trailing_lt 32 c.loop-left.left (omega arith) (omega arith)
-
 pub overflow_add-group : goal.overflow_add-group
 overflow_add-group c = omega (arith, turn c, unpacked_below c.args.mask c.args.index)
 
