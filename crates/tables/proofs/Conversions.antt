@@ -1,14 +1,14 @@
 -- The conversion of a table entry by entry: how a table over one spot more is made of its halves, and that the two operations undo each other.
-use Rattle.std.proofs.Common.{◌≡◌, ℕ, zero, suc, ◌+◌, ◌-◌, ◌*◌, ◌^◌, ◌<◌, ◌≤◌, Bool, true, false, cond, eqb, ℤ, pos, ◌+ℤ◌, nat_abs, sym, refl, ap, ◌∙◌, subst, ap₂, ⊎_elim, one-mul, pow-suc, zero-mul, arith}
+use Rattle.std.proofs.Common.{◌≡◌, ℕ, zero, suc, ◌+◌, ◌*◌, ◌^◌, ◌<◌, ◌≤◌, Bool, true, false, cond, eqb, ℤ, pos, ◌+ℤ◌, nat_abs, sym, refl, ap, ◌∙◌, subst, ap₂, one-mul, pow-suc, zero-mul, arith}
 use borrow.Author.Differences.{ints}
 use lib.Bits.{bit_and, bit_xor, and_block, xor_block, xor_lt, and_le_r, and_zero_l}
 use lib.Count.{ones, ones_cat, ones-ones}
 use lib.IntN.{+ℤ_idl, +ℤ_idr}
-use Rattle.std.proofs.lemmas.Bool.{cases_lt}
 use Rattle.std.proofs.lemmas.Bool.Decides.{nat_tests}
 use Rattle.terms.specs.Groups.{inside, size}
 use Rattle.tables.specs.NormalForm.{total}
 use Rattle.tables.specs.Tables.{Operation, plus, minus, applied, turned}
+use Rattle.tables.proofs.Joins.{in_halves}
 use Rattle.tables.proofs.Totals.{total_same, total_none, total_append, total_applied, total_zero_applied, total_near}
 
 -- ---- Groups with and without one more spot, the highest
@@ -198,10 +198,7 @@ module _ (o : Operation) (k : ℕ) (restored : Restored o (2 ^ k)) (f : ℕ → 
       ∙ undone o (f (2 ^ k + g)) (f g)
 
   back_again : (g : ℕ) → g < 2 ^ k + 2 ^ k → entry (opposite o) (2 ^ k + 2 ^ k) whole g ≡ f g
-  back_again g l =
-      ⊎_elim (back_lower g)
-      (λ m. let e : 2 ^ k + (g - 2 ^ k) ≡ g = omega arith in subst (λ j. entry (opposite o) (2 ^ k + 2 ^ k) whole j ≡ f j) e (back_upper (g - 2 ^ k) (omega arith)))
-      (cases_lt g (2 ^ k))
+  back_again = in_halves (λ g. entry (opposite o) (2 ^ k + 2 ^ k) whole g ≡ f g) (2 ^ k) back_lower back_upper
 
 pub entry_back : (o : Operation) (k : ℕ) → Restored o (2 ^ k)
 unfolding whole

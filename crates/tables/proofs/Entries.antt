@@ -16,18 +16,11 @@ use Rattle.tables.proofs.Conversions.{entry, entry_is, entry_near}
 
 -- ---- Lists from functions
 
-pub length_tabulated : (n : ℕ) (f : ℕ → ℤ) → length (tabulated n f) ≡ n
-length_tabulated n f = length-map-range_with_len f 0 n
-
 pub get_or_tabulated : (n : ℕ) (f : ℕ → ℤ) (g : ℕ) → g < n → get_or (tabulated n f) g (pos 0) ≡ f g
 get_or_tabulated n f g l = get_or-map-range_with_len f 0 n g g (pos 0) l (zero-add g)
 
--- a list is the table of a function that it agrees with
-pub tabulated_from : (n : ℕ) (f : ℕ → ℤ) (xs : List ℤ) → length xs ≡ n → ((g : ℕ) → g < n → get_or xs g (pos 0) ≡ f g) → xs ≡ tabulated n f
-tabulated_from n f xs l e = fill_by_all f xs n (pos 0) l e
-
 pub tabulated_same : (n : ℕ) (f f' : ℕ → ℤ) → ((g : ℕ) → g < n → f g ≡ f' g) → tabulated n f ≡ tabulated n f'
-tabulated_same n f f' e = tabulated_from n f' (tabulated n f) (length_tabulated n f) (λ g l. get_or_tabulated n f g l ∙ e g l)
+tabulated_same n f f' e = fill_by_all f' (tabulated n f) n (pos 0) (length-map-range_with_len f 0 n) (λ g l. get_or_tabulated n f g l ∙ e g l)
 
 -- ---- Worth as a sum
 
@@ -64,7 +57,7 @@ unfolding at_group
 converted_entries o xs = tabulated_same (length xs) _ _ (λ g l. worth_entries (turned_term o g) g xs ∙ sym (entry_is o (length xs) (λ h. get_or xs h (pos 0)) g))
 
 pub length_converted : (o : Operation) (xs : List ℤ) → length (converted o xs) ≡ length xs
-length_converted o xs = length_tabulated (length xs) _
+length_converted o xs = length-map-range_with_len _ 0 (length xs)
 
 pub get_or_converted : (o : Operation) (xs : List ℤ) (g : ℕ) → g < length xs
     → get_or (converted o xs) g (pos 0) ≡ entry o (length xs) (λ h. get_or xs h (pos 0)) g

@@ -1,11 +1,12 @@
 -- The two conversions undo each other, and so every function of line-ups has exactly one table of terms.
 use Rattle.std.proofs.Common.{◌≡◌, ℕ, ◌^◌, ◌<◌, List, length, get_or, ℤ, pos, sym, ap, ◌∙◌, arith}
 use Rattle.std.proofs.lemmas.List.{ext_get_or}
+use Rattle.std.proofs.lemmas.List.FromFn.{length-map-range_with_len, fill_by_all}
 use Rattle.tables.specs.NormalForm.{HasValues, IsNormalForm, Unique}
 use Rattle.tables.specs.Tables.{Operation, plus, minus, tabulated, as_terms, values, converted, coefficients}
 use Rattle.terms.specs.Terms.{worth}
 use Rattle.tables.proofs.Conversions.{entry, entry_same, entry_back, opposite}
-use Rattle.tables.proofs.Entries.{length_tabulated, get_or_tabulated, tabulated_from, length_converted, get_or_converted, converted_plus}
+use Rattle.tables.proofs.Entries.{get_or_tabulated, length_converted, get_or_converted, converted_plus}
 
 module _ (o : Operation) (k : ℕ) (xs : List ℤ) (long : length xs ≡ 2 ^ k) where
   -- entry h of the table
@@ -44,7 +45,7 @@ unique k cs ds l m e = sym (coefficients_values k cs l) ∙ ap coefficients e �
 -- a term table has the values of f exactly where f makes up its value table
 values_from : (k : ℕ) (f : ℕ → ℤ) (cs : List ℤ) → HasValues k f cs → values cs ≡ tabulated (2 ^ k) f
 values_from k f cs (l, e) =
-    tabulated_from (2 ^ k) f (values cs) (length_tabulated (length cs) (worth (as_terms cs)) ∙ l)
+    fill_by_all f (values cs) (2 ^ k) (pos 0) (length-map-range_with_len (worth (as_terms cs)) 0 (length cs) ∙ l)
     (λ g below. get_or_tabulated (length cs) (worth (as_terms cs)) g (omega arith) ∙ e g below)
 
 has_from : (k : ℕ) (f : ℕ → ℤ) (cs : List ℤ) → length cs ≡ 2 ^ k → values cs ≡ tabulated (2 ^ k) f → HasValues k f cs
@@ -54,7 +55,7 @@ has_from k f cs l e =
 pub normal_form : IsNormalForm
 normal_form k f =
     let vs = tabulated (2 ^ k) f in
-    let long = length_tabulated (2 ^ k) f in
+    let long = length-map-range_with_len f 0 (2 ^ k) in
     let restored = values_coefficients k vs long in (
       coefficients vs,
       has_from k f (coefficients vs) (length_converted minus vs ∙ long) restored,

@@ -5,6 +5,7 @@ use lib.IntN.{+ℤ_idl, +ℤ_idr}
 use Rattle.std.specs.List.{AllByRecursion}
 use Rattle.std.proofs.ByRecursion.{All-get_or, All-from_get_or}
 use Rattle.std.proofs.lemmas.List.{get_or-map, get_or_past, length-map}
+use Rattle.std.proofs.lemmas.List.FromFn.{length-map-range_with_len, fill_by_all}
 use Rattle.std.proofs.lemmas.Bool.{cases_lt, cond-true, cond-false, cond_both, eq-eqb, ne_eqb}
 use Rattle.terms.specs.declared.polynomials.Term.{Term}
 use Rattle.terms.specs.Groups.{inside, size}
@@ -17,7 +18,7 @@ use Rattle.tables.specs.Tables.{plus, as_terms, values, coefficients, table_refu
 use Rattle.terms.specs.Terms.{group_of, worth, named, no_term}
 use Rattle.tables.proofs.Accepted.{accepted}
 use Rattle.tables.proofs.Conversions.{part_near}
-use Rattle.tables.proofs.Entries.{length_tabulated, get_or_tabulated, tabulated_from, sums_inside}
+use Rattle.tables.proofs.Entries.{get_or_tabulated, sums_inside}
 use Rattle.tables.proofs.Inverse.{coefficients_values}
 use Rattle.terms.proofs.Packing.{packed_below, inside_packed, packed_onto, packed_apart, inside_named}
 use Rattle.tables.proofs.Totals.{total_same, total_none, total_applied, total_only}
@@ -82,7 +83,7 @@ total_packed m x below (t ∷ us) each =
 -- ---- The table of a rule
 
 table_long : (ts : List Term) → length (rule_table ts) ≡ 2 ^ size (named ts)
-table_long ts = length_tabulated _ (coefficient_in (packed_terms (named ts) ts))
+table_long ts = length-map-range_with_len (coefficient_in (packed_terms (named ts) ts)) 0 _
 
 table_entry : (ts : List Term) (g : ℕ) → g < 2 ^ size (named ts) → get_or (rule_table ts) g (pos 0) ≡ coefficient_in (packed_terms (named ts) ts) g
 table_entry ts = get_or_tabulated _ (coefficient_in (packed_terms (named ts) ts))
@@ -121,7 +122,7 @@ module _ (ts : List Term) (below : named ts < 2 ^ 32) where
   holds_sums : HoldsSums ts (values (rule_table ts))
   holds_sums =
       let f = worth (as_terms (rule_table ts)) in (
-        length_tabulated _ f ∙ table_long ts,
+        length-map-range_with_len f 0 _ ∙ table_long ts,
         λ x _. get_or_tabulated _ f (packed (named ts) x) (rw (table_long ts) (packed_below (named ts) x below)) ∙ worth_table x,
       )
 
@@ -136,7 +137,7 @@ module _ (ts : List Term) (below : named ts < 2 ^ 32) where
     only_sums =
         let f = worth (as_terms (rule_table ts)) in
         let alike = sums.0 ∙ sym (table_long ts) in
-        tabulated_from _ f vs alike (λ c l. of_entries (λ d z. z ≡ f d) (λ x. sym (worth_table x)) c (rw alike l))
+        fill_by_all f vs _ (pos 0) alike (λ c l. of_entries (λ d z. z ≡ f d) (λ x. sym (worth_table x)) c (rw alike l))
 
 pub has_table : (ts : List Term) → named ts < 2 ^ 32 → size (named ts) ≤ most_table_spots → length ts ≤ most_terms
     → AllByRecursion (λ t. nat_abs t.coefficient ≤ most_coefficient) ts

@@ -1,11 +1,11 @@
 -- Words of the inner functions that convert a table: no public contract cites them.
-use Rattle.std.specs.Prelude.{ℕ, ◌+◌, ◌-◌, cond, List, ℤ, pos, nat_lt, slice_index_or, slice_set}
+use Rattle.std.specs.Prelude.{ℕ, ◌-◌, ◌^◌, ◌<◌, cond, List, ℤ, pos, nat_lt, slice_index_or, unsigned_abs}
 use Rattle.terms.specs.Refusals.{unless}
 use Rattle.tables.specs.Tables.{Operation, applied, converted, table_refusal}
 
--- the table with entry i of its upper half joined with the one at the same place of the lower half
-abbrev pub with_join : Operation → ℕ → ℕ → List ℤ → List ℤ
-with_join o half i xs = slice_set xs (half + i) (applied o (slice_index_or xs (half + i) (pos 0)) (slice_index_or xs i (pos 0)))
+-- the number is so small that the operation on two such numbers fits 64 bits
+abbrev pub Near : ℤ → Type 0
+Near z = unsigned_abs z < 2 ^ 62
 
 -- the join of a table's halves: the lower half stays, and the operation is applied to each entry of the upper half with the one below it
 abbrev pub joined : Operation → ℕ → List ℤ → ℕ → ℤ

@@ -1,8 +1,8 @@
 // Tables of terms and of values, converted into each other in place: the polynomial normal form of a pseudo-Boolean function.
-ghost use Rattle.std.specs.Prelude.{◌≡◌, ◌+◌, ◌^◌, ◌<◌, length, pos, None, Ok, slice_index_or, unsigned_abs};
+ghost use Rattle.std.specs.Prelude.{◌≡◌, ◌+◌, length, None, Ok};
 ghost use Rattle.std.specs.List.{AllByRecursion};
 ghost use Rattle.terms.specs.Tests.{any};
-ghost use Rattle.tables.specs.Conversion.{converted_table, joined, with_join};
+ghost use Rattle.tables.specs.Conversion.{Near, converted_table, joined};
 ghost use Rattle.tables.specs.Tables.{Operation, plus, minus, applied, tabulated, converted};
 ghost use Rattle.tables.specs.Tables.{large, is_table_length, table_rows, table_refusal, table_answer, to_values_table, to_terms_table};
 ghost use Rattle.terms.specs.Refusals.{Uppermost};
@@ -11,13 +11,14 @@ ghost use Rattle.tables.specs.NormalForm.{Restores, OnlyTerms};
 use crate::limits::{MOST_ENTRIES, MOST_ENTRY};
 use terms::Refusal;
 
-// What a conversion makes of an entry of the upper half of a table and the entry of the lower half at the same place.
+// What a conversion makes of an entry of the upper half of a table and the entry of the lower half at the same place. A trait and no closure, so
+// that the contracts of the functions below can name the operation.
 trait Join {
     ghost operation: { Operation };
 
     fn join(upper: i64, lower: i64) -> i64
-        requires upper { unsigned_abs upper < 2 ^ 62 }
-        requires lower { unsigned_abs lower < 2 ^ 62 }
+        requires upper { Near upper }
+        requires lower { Near lower }
         ensures { result ≡ applied operation upper lower };
 }
 
@@ -43,25 +44,15 @@ impl Join for Difference {
     }
 }
 
-// Joins entry `i` of the upper half of a table with the entry of the lower half at the same place.
-fn join_entry<J: Join>(table: &mut [i64], half: usize, i: usize)
-    requires size { length table.old ≡ half + half }
-    requires within { i < half }
-    requires upper { unsigned_abs (slice_index_or table.old (half + i) (pos 0)) < 2 ^ 62 }
-    requires lower { unsigned_abs (slice_index_or table.old i (pos 0)) < 2 ^ 62 }
-    ensures { table.new ≡ with_join J.operation half i table.old }
-{
-    table[half + i] = J::join(table[half + i], table[i]);
-}
-
 // Joins the upper half of a table, whose halves are converted, with the lower half.
 fn join_halves<J: Join>(table: &mut [i64], half: usize)
     requires size { length table.old ≡ half + half }
-    requires near { AllByRecursion (λ z. unsigned_abs z < 2 ^ 62) table.old }
+    requires near { AllByRecursion Near table.old }
     ensures { table.new ≡ tabulated (half + half) (joined J.operation half table.old) }
 {
+    // By index is a required form (docs/DECISIONS.md).
     for i in 0..half {
-        join_entry::<J>(table, half, i);
+        table[half + i] = J::join(table[half + i], table[i]);
     }
 }
 
@@ -74,28 +65,17 @@ fn convert<J: Join>(table: &mut [i64])
         return;
     }
     let half = table.len() / 2;
-    convert::<J>(&mut table[0..half]);
-    convert::<J>(&mut table[half..]);
+    let (lower, upper) = table.split_at_mut(half);
+    convert::<J>(lower);
+    convert::<J>(upper);
     join_halves::<J>(table, half);
-}
-
-// The entry is beyond what a conversion takes.
-fn is_large(entry: i64) -> bool
-    ensures { result ≡ large entry }
-{
-    entry.unsigned_abs() > MOST_ENTRY
 }
 
 // Some entry is beyond what a conversion takes.
 fn has_large(table: &[i64]) -> bool
     ensures { result ≡ any large table.now }
 {
-    for entry in table {
-        if is_large(*entry) {
-            return true;
-        }
-    }
-    false
+    table.iter().any(|entry| entry.unsigned_abs() > MOST_ENTRY)
 }
 
 // The length is that of a table over few enough spots.
@@ -105,17 +85,17 @@ fn is_table_length(length: usize) -> bool
     length.is_power_of_two() && length <= MOST_ENTRIES
 }
 
-// The refusal of a table's conversion, where one fits it.
-fn refusal_of(table: &[i64]) -> Option<Refusal>
-    ensures { result ≡ table_refusal table.now }
+// A table is refused where an entry is too large, or else where no table has its length.
+fn check(table: &[i64]) -> Result<(), Refusal>
+    ensures { result ≡ table_answer table.now }
 {
     if has_large(table) {
-        Some(Refusal::OutOfRange)
-    } else if !is_table_length(table.len()) {
-        Some(Refusal::OddLength)
-    } else {
-        None
+        return Err(Refusal::OutOfRange);
     }
+    if !is_table_length(table.len()) {
+        return Err(Refusal::OddLength);
+    }
+    Ok(())
 }
 
 // Converts a table, or refuses it.
@@ -123,9 +103,7 @@ fn convert_checked<J: Join>(table: &mut [i64]) -> Result<(), Refusal>
     ensures answer { result ≡ table_answer table.old }
     ensures table { table.new ≡ converted_table J.operation table.old }
 {
-    if let Some(refusal) = refusal_of(table) {
-        return Err(refusal);
-    }
+    check(table)?;
     convert::<J>(table);
     Ok(())
 }
