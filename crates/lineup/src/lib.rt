@@ -3,7 +3,8 @@
 
 pub use sheet::limits::{MOST_AMOUNT, MOST_PRICES, MOST_SPOTS, PLACE_COUNT, RULE_NUMBERS};
 pub use sheet::{
-    Answer, Booking, Card, Draft, Locked, Pin, Pinning, Price, Rule, Sheet, replay, replay_pins,
+    Answer, Booking, Card, Draft, DraftState, Locked, LockedState, Pin, Pinning, Price, Rule,
+    Sheet, SheetIn, SheetState, replay, replay_pins,
 };
 pub use tables::conversion::{to_terms, to_values};
 pub use tables::laws::tables_say_so;

@@ -1,16 +1,14 @@
 -- What is known of a call that no row of refusal fits.
-use Rattle.std.proofs.Common.{◌≡◌, ℕ, ◌<◌, ◌≤◌, true, false, not, ◌&&◌, ◌||◌, eqb, ltb, leb, map, length, drop, ℤ, nat_abs, Some, None}
+use Rattle.std.proofs.Common.{◌≡◌, ℕ, ◌<◌, ◌≤◌, false, not, ◌&&◌, ◌||◌, eqb, ltb, leb, map, length, ℤ, nat_abs, None}
 use Rattle.std.proofs.lemmas.Bool.{ltb-false, leb-false, or_parts}
 use Rattle.terms.specs.Limits.{most_terms, most_named, most_bound, relation_count}
-use Rattle.terms.specs.Refusals.{row}
 use Rattle.terms.specs.Tests.{any, repeats, is_empty}
 use Rattle.terms.specs.Groups.{beyond, size}
 use Rattle.terms.specs.Terms.{group_of, named, blank, unfit}
-use Rattle.terms.specs.declared.refusals.Refusal.TheVariants.{OffSheet, Full}
-use Rattle.terms.proofs.Uppermost.{no_row, second_row}
+use Rattle.terms.proofs.Uppermost.{no_row}
 use Rattle.sheet.specs.Limits.{most_spots, rule_numbers, most_prices, most_amount}
-use Rattle.sheet.specs.Ledger.{Ledger, Posting, Declares, Posts, Prices, Withdraws, spots, live, unused, is_for, is_zero, refusal}
-use Rattle.sheet.specs.Ledger.{declare_rows, post_rows, price_rows, withdraw_rows}
+use Rattle.sheet.specs.Ledger.{Ledger, Posting, Declares, Posts, Prices, spots, live, unused, is_for, is_zero, refusal}
+use Rattle.sheet.specs.Ledger.{declare_rows, post_rows, price_rows}
 
 pub record FitDeclare (l : Ledger) (house : ℕ) : Type 0 where
   pub room : spots l < most_spots
@@ -60,13 +58,6 @@ fit_post l p h =
       few = ltb-false most_named (size (named ts)) crowd.1;
     }
 
--- the second row of a post
-pub full_post : (l : Ledger) (p : Posting) → any (λ t. beyond (spots l) t.group) p.terms ≡ false
-    → ltb (unused l.places) (length p.terms) ≡ true → refusal l (Posts p) ≡ Some Full
-full_post l p h k =
-    second_row (row (any (λ t. beyond (spots l) t.group) p.terms) OffSheet) (row (ltb (unused l.places) (length p.terms)) Full)
-    (drop 2 (post_rows l p)) h k
-
 pub record FitPrice (l : Ledger) (amount : ℤ) (group : ℕ) : Type 0 where
   pub on_sheet : beyond (spots l) group ≡ false
   pub room : (leb most_prices (length l.contents.prices) && (not (any (is_for group) l.contents.prices) && not (is_zero amount))) ≡ false
@@ -84,6 +75,3 @@ fit_price l amount group h =
       sized = ltb-false most_amount (nat_abs amount) free.1.1.1.0;
       few = ltb-false most_named (size group) free.1.1.1.1.0;
     }
-
-pub fit_withdraw : (l : Ledger) (number : ℕ) → refusal l (Withdraws number) ≡ None → number < rule_numbers
-fit_withdraw l number h = leb-false rule_numbers number (no_row (withdraw_rows l number) h).0

@@ -13,7 +13,7 @@ apart_push xs x fresh apart i j below within same =
     let old = apart i j below in
     grind (arith, nat_tests, places)
 
-repeats_apart : (xs : List ℕ) → Apart xs → repeats xs ≡ false
+pub repeats_apart : (xs : List ℕ) → Apart xs → repeats xs ≡ false
 repeats_apart xs apart = ⊎_elim
     (λ h. let t = (repeats_says xs).0 h in absurd (apart t.0 t.1 t.2 t.3 t.4))
     (λ h. h)
@@ -28,7 +28,7 @@ module _ {X : Type 0} (g : X → ℕ) (test : X → Bool) where
       let rest = any_kept_by f xs later in
       cond_both (test x) _ _ (λ ys. any f (map g ys) ≡ false) (λ _. or_from (f (g x)) _ here rest) (λ _. rest)
 
-  repeats_kept_by : (xs : List X) → repeats (map g xs) ≡ false → repeats (map g (filter test xs)) ≡ false
+  pub repeats_kept_by : (xs : List X) → repeats (map g xs) ≡ false → repeats (map g (filter test xs)) ≡ false
   repeats_kept_by [] h = refl
   repeats_kept_by (x ∷ xs) h =
       let (here, later) = or_parts (any (eqb (g x)) (map g xs)) (repeats (map g xs)) h in

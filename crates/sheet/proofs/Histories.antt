@@ -3,18 +3,11 @@ use Rattle.std.proofs.Common.{◌≡◌, ℕ, List, [], ◌∷◌, ◌++◌, sym
 use mathlib.Core.Logic.{∥∥₁_elim, ∥∥₁_map}
 use denote.Struct.Props.{props}
 use Rattle.std.proofs.lemmas.List.Sums.{fold_push}
+use Rattle.sheet.specs.Ledger.{Ledger, Contents, Call, step, empty_ledger, Told}
 use Rattle.terms.specs.declared.polynomials.Term.{Term}
 use Rattle.sheet.specs.declared.prices.Price.{Price}
-use Rattle.sheet.specs.Ledger.{Ledger, Contents, Call, step, empty_ledger, Told}
 use Rattle.sheet.specs.Kept.{Apart, Spotted, KeptTerms, KeptRules, KeptPrices, Kept}
 use Rattle.sheet.proofs.Keeps.{kept_empty, kept_step}
-
-pub told_new : (l : Ledger) → l ≡ empty_ledger → Told l
-told_new l e = ∣ ([], sym e) ∣₁
-
-pub told_step : (l m : Ledger) (c : Call) → Told l → m ≡ step l c → Told m
-told_step l m c told e =
-    ∥∥₁_map told (λ p. (p.0 ++ c ∷ [], fold_push step empty_ledger p.0 c ∙ ap (λ k. step k c) p.1 ∙ sym e))
 
 -- what is kept is kept in one way
 apart_prop : (xs : List ℕ) → IsProp (Apart xs)
@@ -38,8 +31,15 @@ kept_prop l = hlevel props
 pub kept_of : (l : Ledger) → ∥ Kept l ∥₁ → Kept l
 kept_of l k = ∥∥₁_elim k (kept_prop l) (λ x. x)
 
-pub kept_new : (l : Ledger) → l ≡ empty_ledger → ∥ Kept l ∥₁
-kept_new l e = ∣ subst Kept (sym e) kept_empty ∣₁
+-- what the type of a sheet says of its ledger
+abbrev pub Sound : Ledger → Type 0
+Sound l = record { told : Told l; kept : ∥ Kept l ∥₁ }
 
-pub kept_after : (l m : Ledger) (c : Call) → ∥ Kept l ∥₁ → m ≡ step l c → ∥ Kept m ∥₁
-kept_after l m c k e = ∥∥₁_map k (λ x. subst Kept (sym e) (kept_step l c x))
+pub sound_new : (l : Ledger) → l ≡ empty_ledger → Sound l
+sound_new l e = record { told = ∣ ([], sym e) ∣₁; kept = ∣ subst Kept (sym e) kept_empty ∣₁ }
+
+pub sound_after : (l m : Ledger) (c : Call) → Told l → ∥ Kept l ∥₁ → m ≡ step l c → Sound m
+sound_after l m c told kept e = record {
+  told = ∥∥₁_map told (λ p. (p.0 ++ c ∷ [], fold_push step empty_ledger p.0 c ∙ ap (λ k. step k c) p.1 ∙ sym e));
+  kept = ∥∥₁_map kept (λ x. subst Kept (sym e) (kept_step l c x));
+}

@@ -3,6 +3,7 @@ use Rattle.std.proofs.Common.{◌≡◌, ℕ, ◌+◌, ◌<◌, ◌≤◌, Bool,
 use Rattle.std.specs.Option.{option_map}
 use Rattle.std.specs.List.{prefix_len}
 use Rattle.std.proofs.lemmas.List.{length-append, length-take, length-drop, length-replicate, length_push}
+use Rattle.std.proofs.lemmas.Option.{none-some}
 use Rattle.std.proofs.lemmas.List.Sums.{sum_by-cons, count_by-le-length}
 use Rattle.std.proofs.lemmas.Bool.{cases_Bool, cond_both, eqb-true, eqb-false, ltb-false, or_parts, true≢false}
 use Rattle.terms.specs.Groups.{beyond}
@@ -27,7 +28,7 @@ use Rattle.sheet.proofs.Apart.{apart_push}
 use Rattle.sheet.proofs.PricesKept.{kept_amount}
 
 no_rule : (n number : ℕ) (r : LiveRule) → None ≡ Some r → KeptRule n number r
-no_rule n number r e = let z : ◌≡◌ {A = ℕ} 0 1 = cc in absurd (omega arith)
+no_rule n number r e = absurd (none-some r e)
 
 -- a new sheet
 pub kept_empty : Kept empty_ledger

@@ -1,5 +1,5 @@
 -- Ledgers that agree part by part, and the calls that no row of refusal fits.
-use Rattle.std.proofs.Common.{◌≡◌, ℕ, Bool, List, None, Ok, Option, ap}
+use Rattle.std.proofs.Common.{◌≡◌, ℕ, Bool, List, Some, None, Err, Option, Result, ap, refl, arith}
 use Rattle.terms.specs.Refusals.{answered, unless}
 use Rattle.terms.specs.declared.refusals.Refusal.{Refusal}
 use Rattle.sheet.specs.declared.prices.Price.{Price}
@@ -20,5 +20,10 @@ same_ledger b eh er ep et eq = λ i. record {
 pub made_done : (l : Ledger) (c : Call) → refusal l c ≡ None → made l c ≡ done l c
 made_done l c h = ap (λ e. unless e l (done l c)) h
 
-pub answered_ok : {X : Type 0} (e : Option Refusal) (x : X) → e ≡ None → answered e x ≡ Ok x
-answered_ok e x h = ap (λ o. answered o x) h
+-- a call whose check answers a refusal
+unless_refused : {X : Type 0} (o : Option Refusal) (e : Refusal) (x y : X) → ◌≡◌ {A = Result (Unit {0}) Refusal} (Err e) (answered o tt) → x ≡ unless o x y
+unless_refused None e x y h = absurd (grind arith)
+unless_refused (Some d) e x y h = refl
+
+pub made_none : (l : Ledger) (c : Call) (e : Refusal) → ◌≡◌ {A = Result (Unit {0}) Refusal} (Err e) (answered (refusal l c) tt) → l ≡ made l c
+made_none l c e h = unless_refused (refusal l c) e l (done l c) h

@@ -1,6 +1,5 @@
 -- What a change of one amount leaves of the prices that every sheet keeps.
-use Rattle.std.proofs.Common.{◌≡◌, ℕ, ◌<◌, ◌≤◌, Bool, false, cond, not, eqb, List, [], ◌∷◌, ◌++◌, map, length, ℤ, nat_abs, filter, refl, ap, ◌∙◌, subst, arith}
-use mathlib.Core.Path.{fun_ext}
+use Rattle.std.proofs.Common.{◌≡◌, ℕ, ◌<◌, ◌≤◌, Bool, false, cond, not, List, [], ◌∷◌, ◌++◌, map, length, ℤ, nat_abs, filter, refl, ◌∙◌, subst, arith}
 use Rattle.std.specs.List.{AllByRecursion}
 use Rattle.std.proofs.ByRecursion.{All-get_or, All-from_get_or, all_kept_by, All-map, All-weaker, All-push}
 use Rattle.std.proofs.lemmas.List.{length-map, length_push, map_push}
@@ -9,7 +8,6 @@ use Rattle.std.proofs.lemmas.Bool.{cond_both, eqb-true, eqb-false}
 use Rattle.std.proofs.lemmas.Bool.Decides.{nat_tests}
 use Rattle.terms.specs.Tests.{any}
 use Rattle.terms.proofs.Says.{beyond_false}
-use Rattle.terms.proofs.Searches.{any_map}
 use Rattle.sheet.specs.declared.prices.Price.{Price}
 use Rattle.sheet.specs.Ledger.{Ledger, spots, is_for, is_zero, with_amount, price_of}
 use Rattle.sheet.specs.Limits.{most_prices}
@@ -17,6 +15,7 @@ use Rattle.sheet.specs.Layout.{price_group, no_price}
 use Rattle.sheet.specs.Kept.{Apart, KeptPrice, KeptPrices}
 use Rattle.sheet.proofs.Accepted.{FitPrice}
 use Rattle.sheet.proofs.Apart.{apart_push, apart_kept_by}
+use Rattle.sheet.proofs.PriceLists.{any_group}
 
 -- the new price in place of the old one of its group, and any other price as it is
 abbrev changed : Price → Price → Price
@@ -28,11 +27,6 @@ groups_changed new (p ∷ ps) =
     let rest = groups_changed new ps in
     let here = cond_both (is_for new.group p) new p (λ q. p.group ≡ q.group) (eqb-true p.group new.group) (λ _. refl) in
     cc
-
-unlisted : (group : ℕ) (ps : List Price) → any (is_for group) ps ≡ false → any (eqb group) (map price_group ps) ≡ false
-unlisted group ps h =
-    let flip : (p : Price) → eqb group p.group ≡ is_for group p = λ p. grind (arith, nat_tests) in
-    any_map (eqb group) price_group ps ∙ ap (λ f. any f ps) (fun_ext flip) ∙ h
 
 kept_list : (n : ℕ) (ps : List Price) → length ps ≤ most_prices → AllByRecursion (KeptPrice n) ps → Apart (map price_group ps) → KeptPrices n ps
 kept_list n ps short all apart = (short, λ k h. All-get_or (KeptPrice n) ps k no_price h all, apart)
@@ -60,7 +54,7 @@ module _ (n : ℕ) (ps : List Price) (old : KeptPrices n ps) where
     kept_pushed : length ps < most_prices → any (is_for new.group) ps ≡ false → KeptPrices n (ps ++ new ∷ [])
     kept_pushed room fresh =
         kept_list n (ps ++ new ∷ []) (omega (arith, length_push ps new)) (All-push (KeptPrice n) ps new each kept)
-        (rw map_push (apart_push (map price_group ps) new.group (unlisted new.group ps fresh) old.2))
+        (rw map_push (apart_push (map price_group ps) new.group (any_group new.group ps ∙ fresh) old.2))
 
     kept_set : (any (is_for new.group) ps ≡ false → length ps < most_prices)
         → KeptPrices n (cond (any (is_for new.group) ps) (map (changed new) ps) (ps ++ new ∷ []))

@@ -1,17 +1,15 @@
 -- The rules of a book: what a write at one number leaves at every number.
-use Rattle.std.proofs.Common.{◌≡◌, ℕ, zero, suc, ◌+◌, ◌<◌, ◌≤◌, eqb, List, length, get_or, take, drop, set, replicate, Some, None, Option, sym, refl, ap, ◌∙◌, subst, ⊎_elim, le_refl, arith}
+use Rattle.std.proofs.Common.{◌≡◌, ℕ, zero, suc, ◌+◌, ◌<◌, ◌≤◌, eqb, List, length, get_or, take, drop, set, replicate, Some, None, Option, sym, refl, ap, ◌∙◌, ⊎_elim}
 use Rattle.std.specs.Option.{option_map}
 use Rattle.std.specs.List.{between}
-use Rattle.std.proofs.lemmas.List.{get_or_past, get_or-set_same, get_or-set_other, take-take}
+use Rattle.std.proofs.lemmas.List.{get_or-set_same, get_or-set_other, take-take}
 use Rattle.std.proofs.lemmas.Slice.{between_is}
 use Rattle.std.proofs.lemmas.Bool.{cases_eq, eq-eqb, ne_eqb, cond-true, cond-false}
 use Rattle.terms.specs.declared.polynomials.Term.{Term}
-use Rattle.sheet.specs.declared.book.Book.{Book}
 use Rattle.sheet.specs.declared.book.Placed.{Placed}
 use Rattle.sheet.specs.declared.book.Places.{Places}
 use Rattle.sheet.specs.Ledger.{put}
 use Rattle.sheet.specs.Layout.{Within}
-use Rattle.sheet.specs.Limits.{rule_numbers}
 use Rattle.sheet.specs.Of.{live_rule}
 
 -- a function of the entry at a number, after a write
@@ -28,23 +26,6 @@ put_same f g n x y e same k = ⊎_elim
     (λ h. cond-true (eqb k n) x (f k) (eq-eqb k n h) ∙ e ∙ sym (cond-true (eqb k n) y (g k) (eq-eqb k n h)))
     (λ h. cond-false (eqb k n) x (f k) (ne_eqb k n h) ∙ same k h ∙ sym (cond-false (eqb k n) y (g k) (ne_eqb k n h)))
     (cases_eq k n)
-
--- a write of a rule that lies below n
-within_set : (rules : List (Option Placed)) (m n number : ℕ) (x : Option Placed) → m ≤ n → number < length rules
-    → ((r : Placed) → x ≡ Some r → r.start + r.count ≤ n) → Within rules m → Within (set rules number x) n
-within_set rules m n number x le within own old k r e = ⊎_elim
-    (λ h. own r (sym (get_or-set_same rules number x None within) ∙ ap (λ j. get_or (set rules number x) j None) (sym h) ∙ e))
-    (λ h. let low = old k r (sym (get_or-set_other rules number k x None h) ∙ e) in omega arith)
-    (cases_eq k number)
-
-pub within_none : (rules : List (Option Placed)) (n number : ℕ) → number < length rules → Within rules n → Within (set rules number None) n
-within_none rules n number within =
-    within_set rules n n number None (le_refl n) within (λ r e. let z : ◌≡◌ {A = ℕ} 0 1 = cc in absurd (omega arith))
-
-pub within_some : (rules : List (Option Placed)) (m n number : ℕ) (r : Placed) → m ≤ n → number < length rules → r.start + r.count ≤ n
-    → Within rules m → Within (set rules number (Some r)) n
-within_some rules m n number r le within low =
-    within_set rules m n number (Some r) le within (λ s e. let same : r ≡ s = cc in subst (λ x. x.start + x.count ≤ n) same low)
 
 -- terms that lie below what two tables share are the same in both
 between_shared : (xs ys : List Term) (n a b : ℕ) → take n xs ≡ take n ys → b ≤ n → between a b xs ≡ between a b ys
@@ -67,7 +48,7 @@ rules_after rules old new n r lt within shared k =
     (λ j _. mapped_same (live_rule new) (live_rule old) (get_or rules j None) (λ s e. λ i. record {
       relation = s.relation;
       bound = s.bound;
-      terms = between_shared new.table old.table old.used s.start (s.start + s.count) shared (within j s e) i;
+      terms = between_shared new.table old.table old.used s.run.start (s.run.start + s.run.count) shared (within j s e) i;
     })) k
 
 -- every place of a list of one value, and past it
@@ -75,7 +56,3 @@ pub get_or_all : {X : Type 0} (n : ℕ) (x : X) (k : ℕ) → get_or (replicate 
 get_or_all zero x k = refl
 get_or_all (suc n) x zero = refl
 get_or_all (suc n) x (suc k) = get_or_all n x k
-
--- no rule has a number that is too large
-pub rule_past : (b : Book) (n : ℕ) → rule_numbers ≤ n → get_or b.rules n None ≡ None
-rule_past b n h = get_or_past b.rules n None (omega (arith, b.size))

@@ -1,8 +1,11 @@
 -- Sheets and histories as they are given, and what the ledger is told of them.
-use Rattle.std.specs.Prelude.{ℕ, true, false, cond, List, [], ◌∷◌, ◌++◌, length, take, drop, Ok, Err, Result}
+use Rattle.std.specs.Prelude.{◌≡◌, ℕ, true, false, cond, List, [], ◌∷◌, ◌++◌, length, take, drop, Ok, Err, Result}
+use Rattle.std.specs.List.{FoldsTo}
 use Rattle.terms.specs.declared.refusals.Refusal.{Refusal}
-use Rattle.sheet.specs.declared.states.Draft.{Draft}
-use Rattle.sheet.specs.declared.states.Locked.{Locked}
+use Rattle.sheet.specs.declared.states.SheetState.{Ghosts}
+use Rattle.sheet.specs.declared.states.DraftState.{DraftState}
+use Rattle.sheet.specs.declared.states.LockedState.{LockedState}
+use Rattle.sheet.specs.declared.states.SheetIn.{SheetIn}
 use Rattle.sheet.specs.declared.states.Sheet.{Sheet}
 use Rattle.sheet.specs.declared.states.Sheet.TheVariants as sheets
 use Rattle.sheet.specs.declared.bookings.Booking.{Booking}
@@ -14,11 +17,21 @@ use Rattle.sheet.specs.Ledger.{Ledger, LiveRule, Call, Declares, Posts, Prices, 
 use Rattle.sheet.specs.Ledger.{declare_answer, post_answer, price_answer, withdraw_answer}
 use Rattle.sheet.specs.Of.{ledger}
 
+-- the ledger of a sheet in a state
+abbrev pub ledger_in : {S : Type 0} {state : Ghosts S} → SheetIn S state → Ledger
+ledger_in {S} {state} s = ledger s.book state.locked
+
+abbrev pub Draft : Type 0
+Draft = SheetIn DraftState (record { locked = false })
+
+abbrev pub Locked : Type 0
+Locked = SheetIn LockedState (record { locked = true })
+
 abbrev pub draft_ledger : Draft → Ledger
-draft_ledger d = ledger d.book false
+draft_ledger d = ledger_in d
 
 abbrev pub locked_ledger : Locked → Ledger
-locked_ledger s = ledger s.book true
+locked_ledger s = ledger_in s
 
 abbrev pub sheet_ledger : Sheet → Ledger
 sheet_ledger (sheets.Draft d) = draft_ledger d
@@ -70,3 +83,13 @@ answers_to l cs = answers step answer_to l cs
 -- the answers written over the front of a list, as far as it reaches
 abbrev pub noted : {A : Type 0} → List A → List A → List A
 noted old new = take (length old) new ++ drop (length new) old
+
+-- one call by R, which relates a state and a call to the state after it and the answer; the answer comes behind those before it
+abbrev pub Answered : {S C A : Type 0} → (S → C → S → A → Type 0) → S × List A → C → S × List A → Type 0
+Answered {A} R p c q = (a : A) × R p.0 c q.0 a × (q.1 ≡ p.1 ++ a ∷ [])
+
+-- calls made in their order, each on the state that the one before it leads to, with their answers noted
+pub record Replays {S C A : Type 0} (R : S → C → S → A → Type 0) (start : S) (calls : List C) (end : S) (old new : List A) : Type 0 where
+  pub given : List A
+  pub made : FoldsTo (Answered R) (start, []) calls (end, given)
+  pub written : new ≡ noted old given

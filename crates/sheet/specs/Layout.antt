@@ -17,7 +17,7 @@ FirstUsed table n = (k : ℕ) → k < place_count → ((get_or table k no_term).
 
 -- every rule lies within the first n places
 abbrev pub Within : List (Option Placed) → ℕ → Type 0
-Within rules n = (k : ℕ) (r : Placed) → slice_index_or rules k None ≡ Some r → r.start + r.count ≤ n
+Within rules n = (k : ℕ) (r : Placed) → slice_index_or rules k None ≡ Some r → r.run.start + r.run.count ≤ n
 
 abbrev pub price_group : Price → ℕ
 price_group p = p.group

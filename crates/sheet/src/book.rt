@@ -1,23 +1,16 @@
-// The data of a sheet, in either state. Each part fills a table of a stated size from the front.
-ghost use Rattle.std.specs.Prelude.{◌≡◌, ◌≤◌, false, map, length, take};
-ghost use Rattle.terms.specs.Tests.{repeats};
-ghost use Rattle.sheet.specs.Limits.{most_spots, place_count, rule_numbers, most_prices};
-ghost use Rattle.sheet.specs.Layout.{FirstUsed, Within, price_group};
+// The data of a sheet, in either state. Each part fills what it has room for from the front.
+ghost use Rattle.std.specs.Prelude.{◌≡◌, ◌≤◌, length};
+ghost use Rattle.sheet.specs.Limits.{place_count, rule_numbers};
+ghost use Rattle.sheet.specs.Layout.{FirstUsed, Within};
 
 use crate::limits::{MOST_PRICES, MOST_SPOTS, PLACE_COUNT, RULE_NUMBERS};
 use crate::prices::Price;
+use arrayvec::ArrayVec;
+use std::marker::Model;
 use terms::{Relation, Term};
 
-// The house numbers of the declared spots, in the order of declaration.
-#[derive(Drop)]
-pub struct Spots {
-    pub(crate) houses: [u32; MOST_SPOTS],
-    pub(crate) count: usize,
-    ghost size: { length houses ≡ most_spots },
-    ghost few: { count ≤ most_spots },
-}
-
-// The term places: the first ones are used, the others empty.
+// The term places: the first ones are used, the others empty. It has no `Model`: contracts speak of the terms, of how many places are used, and of
+// which, so a model would be the fields again.
 #[derive(Drop)]
 pub struct Places {
     pub(crate) table: [Term; PLACE_COUNT],
@@ -30,26 +23,41 @@ pub struct Places {
 // The prices in list order, no group twice.
 #[derive(Drop)]
 pub struct PriceList {
-    pub(crate) entries: [Price; MOST_PRICES],
-    pub(crate) count: usize,
-    ghost size: { length entries ≡ most_prices },
-    ghost few: { count ≤ most_prices },
-    ghost apart: { repeats (map price_group (take count entries)) ≡ false },
+    pub(crate) entries: ArrayVec<Price, MOST_PRICES>,
 }
 
-// A live rule, its terms lying in a run of places.
+impl Model for PriceList {
+    ghost use Rattle.std.specs.Prelude.{◌≡◌, false, List, map};
+    ghost use Rattle.terms.specs.Tests.{repeats};
+    ghost use Rattle.sheet.specs.declared.prices.Price.{Price};
+    ghost use Rattle.sheet.specs.Layout.{price_group};
+
+    ghost Value = { List Price };
+
+    ghost view = { λ l. l.entries.items };
+
+    ghost invariant = { λ l. repeats (map price_group l.entries.items) ≡ false };
+}
+
+// Neighbouring places.
 #[derive(Clone, Copy)]
-pub struct Placed {
-    pub(crate) relation: Relation,
-    pub(crate) bound: i32,
+pub struct Run {
     pub(crate) start: usize,
     pub(crate) count: usize,
 }
 
-// A rule stands at its number, and its terms lie in used places.
+// A live rule, its terms lying in a run of places. They lie there and not in a vector of the rule's own, since a sheet allocates nothing.
+#[derive(Clone, Copy)]
+pub struct Placed {
+    pub(crate) relation: Relation,
+    pub(crate) bound: i32,
+    pub(crate) run: Run,
+}
+
+// The house numbers stand in the order of declaration. A rule stands at its number, and its terms lie in used places.
 #[derive(Drop)]
 pub struct Book {
-    pub(crate) spots: Spots,
+    pub(crate) spots: ArrayVec<u32, MOST_SPOTS>,
     pub(crate) places: Places,
     pub(crate) rules: [Option<Placed>; RULE_NUMBERS],
     pub(crate) prices: PriceList,

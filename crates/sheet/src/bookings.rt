@@ -1,8 +1,9 @@
 // The calls on a sheet as data, with their answers.
 use terms::{Refusal, Term};
 
-// A call on a sheet with its arguments, which nobody has screened.
-#[derive(Clone, Copy)]
+// A call on a sheet with its arguments, which nobody has screened: so a relation is the number that the caller gave, and may be one that no relation
+// has. The arguments stand one by one, so that a call as data reads like the call by name.
+#[derive(Clone, Copy, PartialEq, Eq, Debug)]
 pub enum Booking<'a> {
     Declare {
         house: u32,
@@ -24,7 +25,7 @@ pub enum Booking<'a> {
     Unlock,
 }
 
-// What a call answered.
+// What a call answered. No `Result`, since one call answers a spot and the others nothing, and a call may also be passed over.
 #[derive(Clone, Copy, PartialEq, Eq, Debug)]
 pub enum Answer {
     // The number of the spot that was declared.

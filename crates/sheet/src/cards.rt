@@ -11,15 +11,15 @@ pub enum Pin {
     Out,
 }
 
-// A card pins each spot in, out or not at all.
-#[derive(Clone, Copy)]
+// A card pins each spot in, out or not at all. It has no `Model`: contracts see the pins as a function, and a model's value is data.
+#[derive(Clone, Copy, PartialEq, Eq, Debug)]
 pub struct Card {
     pub(crate) pins: [Option<Pin>; MOST_SPOTS],
     ghost size: { length pins ≡ most_spots },
 }
 
 // A call on a card with its arguments, which nobody has screened.
-#[derive(Clone, Copy)]
+#[derive(Clone, Copy, PartialEq, Eq, Debug)]
 pub enum Pinning {
     Pin { spot: u32, pin: Pin },
     Unpin { spot: u32 },

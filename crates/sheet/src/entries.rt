@@ -1,213 +1,184 @@
 // What the calls make of a book, and which refusal they meet.
-ghost use Rattle.std.specs.Prelude.{◌≡◌, ◌<◌, ◌≤◌, false, ◌||◌, map, length, nat_le, nat_lt, unsigned_abs};
-ghost use Rattle.terms.specs.Limits.{most_terms, most_named, most_bound, relation_count};
-ghost use Rattle.terms.specs.Tests.{any, repeats, is_empty};
-ghost use Rattle.terms.specs.Groups.{size};
-ghost use Rattle.terms.specs.Terms.{group_of, named, blank, unfit};
+ghost use Rattle.std.specs.Prelude.{◌≡◌, ◌<◌, ◌≤◌, false, ◌||◌, map, Some, None, IfOk, length, nat_lt, slice_index_or};
+ghost use Rattle.std.specs.Result.{result_err};
+ghost use Rattle.terms.specs.Relations.{relation_of};
+ghost use Rattle.terms.specs.Refusals.{answered};
+ghost use Rattle.terms.specs.Tests.{any, repeats};
+ghost use Rattle.terms.specs.Terms.{group_of, blank};
 ghost use Rattle.sheet.specs.Limits.{rule_numbers};
-ghost use Rattle.sheet.specs.Ledger.{posting, empty_ledger, live, unused, refusal, made, posted, Declares, Posts, Prices, Withdraws, declare_answer, post_answer, price_answer, withdraw_answer};
-ghost use Rattle.sheet.specs.Of.{ledger};
+ghost use Rattle.sheet.specs.Ledger.{empty_ledger, live, unused, refusal, made, posted, Declares, Posts, Prices, Withdraws, declare_answer, post_answer, price_answer, withdraw_answer};
+ghost use Rattle.sheet.specs.Of.{book_ledger, posting_of};
 
-use crate::book::{Book, Placed, Places, PriceList, Spots};
-use crate::limits::{MOST_AMOUNT, MOST_PRICES, MOST_SPOTS, RULE_NUMBERS};
-use terms::limits::{MOST_BOUND, MOST_NAMED, MOST_TERMS, RELATION_COUNT};
-use terms::{Refusal, Relation, Term, groups, rows};
-
-// No terms, or a term without spots.
-fn is_blank(terms: &[Term]) -> bool
-    ensures { result ≡ (is_empty terms.now || any blank terms.now) }
-{
-    terms.is_empty() || rows::has_blank(terms)
-}
-
-// A coefficient, the bound, the rule number or the relation beyond its limits.
-fn is_out_of_range(number: u8, relation: u8, bound: i32, terms: &[Term]) -> bool
-    ensures { result ≡ (any unfit terms.now || (nat_lt most_bound (unsigned_abs bound) || (nat_le rule_numbers number || nat_le relation_count relation))) }
-{
-    rows::has_unfit(terms)
-        || bound.unsigned_abs() > MOST_BOUND
-        || number as usize >= RULE_NUMBERS
-        || relation >= RELATION_COUNT
-}
-
-// Too many terms, or too many spots.
-fn is_crowded(terms: &[Term]) -> bool
-    ensures { result ≡ (nat_lt most_terms (length terms.now) || nat_lt most_named (size (named terms.now))) }
-{
-    terms.len() > MOST_TERMS || rows::spots_named(terms) > MOST_NAMED
-}
+use crate::book::{Book, Placed, Places, PriceList};
+use crate::limits::{MOST_AMOUNT, RULE_NUMBERS};
+use crate::postings::Posting;
+use crate::prices::Price;
+use arrayvec::ArrayVec;
+use terms::limits::MOST_NAMED;
+use terms::{Refusal, Relation, groups, rows};
 
 impl Book {
     pub(crate) fn new() -> Self
-        ensures { ledger result false ≡ empty_ledger }
+        ensures { book_ledger result ≡ empty_ledger }
     {
         Book {
-            spots: Spots::new(),
+            spots: ArrayVec::new(),
             places: Places::new(),
             rules: [None; RULE_NUMBERS],
             prices: PriceList::new(),
         }
     }
 
-    fn declare_refusal(&self, house: u32) -> Option<Refusal>
-        ensures { result ≡ refusal (ledger self.now false) (Declares house) }
+    fn check_declare(&self, house: u32) -> Result<(), Refusal>
+        ensures { result ≡ answered (refusal (book_ledger self.now) (Declares house)) tt }
     {
-        if self.spots.len() >= MOST_SPOTS {
-            return Some(Refusal::Full);
+        if self.spots.is_full() {
+            return Err(Refusal::Full);
         }
-        if self.spots.has(house) {
-            return Some(Refusal::Twice);
+        if self.spots.as_slice().contains(&house) {
+            return Err(Refusal::Twice);
         }
-        None
+        Ok(())
     }
 
     pub(crate) fn declare(&mut self, house: u32) -> Result<u32, Refusal>
-        ensures after { ledger self.new false ≡ made (ledger self.old false) (Declares house) }
-        ensures answer { result ≡ declare_answer (ledger self.old false) house }
+        ensures after { book_ledger self.new ≡ made (book_ledger self.old) (Declares house) }
+        ensures answer { result ≡ declare_answer (book_ledger self.old) house }
     {
-        if let Some(refusal) = self.declare_refusal(house) {
-            return Err(refusal);
-        }
+        self.check_declare(house)?;
         let spot = self.spots.len();
-        self.spots.add(house);
+        self.spots.push(house);
         Ok(spot as u32)
+    }
+
+    // The entry under a number, where there is one.
+    pub(crate) fn placed(&self, number: u8) -> Option<Placed>
+        ensures { result ≡ slice_index_or self.now.rules number None }
+    {
+        *self.rules.get(usize::from(number))?
     }
 
     // A rule is live under this number.
     fn is_live(&self, number: u8) -> bool
-        ensures { result ≡ live (ledger self.now false) number }
+        ensures { result ≡ live (book_ledger self.now) number }
     {
-        (number as usize) < RULE_NUMBERS && self.rules[number as usize].is_some()
+        self.placed(number).is_some()
     }
 
     // More terms than unused places.
-    fn lacks_places(&self, terms: &[Term]) -> bool
-        ensures { result ≡ nat_lt (unused (ledger self.now false).places) (length terms.now) }
+    fn lacks_places(&self, posting: &Posting<'_>) -> bool
+        ensures { result ≡ nat_lt (unused (book_ledger self.now).places) (length posting.now.terms.now) }
     {
-        terms.len() > self.unused_places()
+        posting.terms.len() > self.unused_places()
     }
 
     // A live number, or a group twice.
-    fn is_twice(&self, number: u8, terms: &[Term]) -> bool
-        ensures { result ≡ (live (ledger self.now false) number || repeats (map group_of terms.now)) }
+    fn is_twice(&self, posting: &Posting<'_>) -> bool
+        ensures { result ≡ (live (book_ledger self.now) posting.now.number || repeats (map group_of posting.now.terms.now)) }
     {
-        self.is_live(number) || rows::group_repeats(terms)
+        self.is_live(posting.number) || rows::group_repeats(posting.terms)
     }
 
-    fn post_refusal(&self, number: u8, relation: u8, bound: i32, terms: &[Term]) -> Option<Refusal>
-        ensures { result ≡ refusal (ledger self.now false) (Posts (posting number relation bound terms.now)) }
+    // The relation of a posting that no row of refusal fits.
+    fn check_post(&self, posting: &Posting<'_>) -> Result<Relation, Refusal>
+        ensures refusal { result_err result ≡ refusal (book_ledger self.now) (Posts (posting_of posting.now)) }
+        ensures relation { IfOk result (λ relation. relation_of posting.now.relation ≡ Some relation) }
     {
-        if rows::names_beyond(terms, self.spots.len()) {
-            return Some(Refusal::OffSheet);
+        if rows::names_beyond(posting.terms, self.spots.len()) {
+            return Err(Refusal::OffSheet);
         }
-        if self.lacks_places(terms) {
-            return Some(Refusal::Full);
+        if self.lacks_places(posting) {
+            return Err(Refusal::Full);
         }
-        if self.is_twice(number, terms) {
-            return Some(Refusal::Twice);
+        if self.is_twice(posting) {
+            return Err(Refusal::Twice);
         }
-        if is_blank(terms) {
-            return Some(Refusal::Blank);
+        if posting.is_blank() {
+            return Err(Refusal::Blank);
         }
-        if is_out_of_range(number, relation, bound, terms) {
-            return Some(Refusal::OutOfRange);
+        if posting.is_out_of_range() {
+            return Err(Refusal::OutOfRange);
         }
-        if is_crowded(terms) {
-            return Some(Refusal::Crowded);
+        let relation = Relation::try_from(posting.relation)?;
+        if posting.is_crowded() {
+            return Err(Refusal::Crowded);
         }
-        None
+        Ok(relation)
     }
 
     // Writes a rule that no row of refusal fits.
-    fn enter(&mut self, number: u8, relation: u8, bound: i32, terms: &[Term])
-        requires number { number < rule_numbers }
-        requires relation { relation < relation_count }
-        requires room { length terms.now ≤ unused (ledger self.old false).places }
-        requires named { any blank terms.now ≡ false }
-        ensures { ledger self.new false ≡ posted (ledger self.old false) (posting number relation bound terms.now) }
+    fn enter(&mut self, relation: Relation, posting: &Posting<'_>)
+        requires number { posting.now.number < rule_numbers }
+        requires relation { relation_of posting.now.relation ≡ Some relation }
+        requires room { length posting.now.terms.now ≤ unused (book_ledger self.old).places }
+        requires named { any blank posting.now.terms.now ≡ false }
+        ensures { book_ledger self.new ≡ posted (book_ledger self.old) (posting_of posting.now) }
     {
-        let Some(relation) = Relation::of_number(relation) else {
-            unreachable()
-        };
-        let start = self.places.append(terms);
-        let count = terms.len();
-        self.rules[number as usize] = Some(Placed {
+        let run = self.places.append(posting.terms);
+        self.rules[usize::from(posting.number)] = Some(Placed {
             relation,
-            bound,
-            start,
-            count,
+            bound: posting.bound,
+            run,
         });
     }
 
-    pub(crate) fn post(
-        &mut self,
-        number: u8,
-        relation: u8,
-        bound: i32,
-        terms: &[Term],
-    ) -> Result<(), Refusal>
-        ensures after { ledger self.new false ≡ made (ledger self.old false) (Posts (posting number relation bound terms.now)) }
-        ensures answer { result ≡ post_answer (ledger self.old false) (posting number relation bound terms.now) }
+    pub(crate) fn post(&mut self, posting: &Posting<'_>) -> Result<(), Refusal>
+        ensures after { book_ledger self.new ≡ made (book_ledger self.old) (Posts (posting_of posting.now)) }
+        ensures answer { result ≡ post_answer (book_ledger self.old) (posting_of posting.now) }
     {
-        if let Some(refusal) = self.post_refusal(number, relation, bound, terms) {
-            return Err(refusal);
-        }
-        self.enter(number, relation, bound, terms);
+        let relation = self.check_post(posting)?;
+        self.enter(relation, posting);
         Ok(())
     }
 
-    fn price_refusal(&self, amount: i32, group: u32) -> Option<Refusal>
-        ensures { result ≡ refusal (ledger self.now false) (Prices amount group) }
+    fn check_price(&self, price: Price) -> Result<(), Refusal>
+        ensures { result ≡ answered (refusal (book_ledger self.now) (Prices price.amount price.group)) tt }
     {
-        if groups::is_beyond(group, self.spots.len()) {
-            return Some(Refusal::OffSheet);
+        if groups::is_beyond(price.group, self.spots.len()) {
+            return Err(Refusal::OffSheet);
         }
-        if self.prices.len() >= MOST_PRICES && !self.prices.has(group) && amount != 0 {
-            return Some(Refusal::Full);
+        if self.prices.is_full() && !self.prices.has(price.group) && price.amount != 0 {
+            return Err(Refusal::Full);
         }
-        if group == 0 {
-            return Some(Refusal::Blank);
+        if price.group == 0 {
+            return Err(Refusal::Blank);
         }
-        if amount.unsigned_abs() > MOST_AMOUNT {
-            return Some(Refusal::OutOfRange);
+        if price.amount.unsigned_abs() > MOST_AMOUNT {
+            return Err(Refusal::OutOfRange);
         }
-        if group.count_ones() > MOST_NAMED {
-            return Some(Refusal::Crowded);
+        if price.group.count_ones() > MOST_NAMED {
+            return Err(Refusal::Crowded);
         }
-        None
-    }
-
-    pub(crate) fn price(&mut self, amount: i32, group: u32) -> Result<(), Refusal>
-        ensures after { ledger self.new false ≡ made (ledger self.old false) (Prices amount group) }
-        ensures answer { result ≡ price_answer (ledger self.old false) amount group }
-    {
-        if let Some(refusal) = self.price_refusal(amount, group) {
-            return Err(refusal);
-        }
-        self.prices.set(amount, group);
         Ok(())
     }
 
-    fn withdraw_refusal(&self, number: u8) -> Option<Refusal>
-        ensures { result ≡ refusal (ledger self.now false) (Withdraws number) }
+    pub(crate) fn price(&mut self, price: Price) -> Result<(), Refusal>
+        ensures after { book_ledger self.new ≡ made (book_ledger self.old) (Prices price.amount price.group) }
+        ensures answer { result ≡ price_answer (book_ledger self.old) price.amount price.group }
     {
-        if number as usize >= RULE_NUMBERS {
-            return Some(Refusal::OutOfRange);
+        self.check_price(price)?;
+        self.prices.set(price);
+        Ok(())
+    }
+
+    fn check_withdraw(&self, number: u8) -> Result<(), Refusal>
+        ensures { result ≡ answered (refusal (book_ledger self.now) (Withdraws number)) tt }
+    {
+        if usize::from(number) >= RULE_NUMBERS {
+            return Err(Refusal::OutOfRange);
         }
         if !self.is_live(number) {
-            return Some(Refusal::NotLive);
+            return Err(Refusal::NotLive);
         }
-        None
+        Ok(())
     }
 
     pub(crate) fn withdraw(&mut self, number: u8) -> Result<(), Refusal>
-        ensures after { ledger self.new false ≡ made (ledger self.old false) (Withdraws number) }
-        ensures answer { result ≡ withdraw_answer (ledger self.old false) number }
+        ensures after { book_ledger self.new ≡ made (book_ledger self.old) (Withdraws number) }
+        ensures answer { result ≡ withdraw_answer (book_ledger self.old) number }
     {
-        if let Some(refusal) = self.withdraw_refusal(number) {
-            return Err(refusal);
-        }
-        self.rules[number as usize] = None;
+        self.check_withdraw(number)?;
+        self.rules[usize::from(number)] = None;
         Ok(())
     }
 }

@@ -9,11 +9,11 @@ mod entries;
 pub mod limits;
 pub mod pins;
 mod places;
+mod postings;
 mod price_list;
 pub mod prices;
 pub mod questions;
 pub mod replays;
-mod spots;
 pub mod states;
 
 pub use bookings::{Answer, Booking};
@@ -22,4 +22,4 @@ pub use pins::replay_pins;
 pub use prices::Price;
 pub use questions::Rule;
 pub use replays::replay;
-pub use states::{Draft, Locked, Sheet};
+pub use states::{Draft, DraftState, Locked, LockedState, Sheet, SheetIn, SheetState};

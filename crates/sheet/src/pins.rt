@@ -6,7 +6,7 @@ ghost use Rattle.sheet.specs.History.{noted};
 
 use crate::cards::{Card, Pin, Pinning};
 use crate::limits::MOST_SPOTS;
-use crate::replays::note;
+use crate::replays::replay_with;
 use terms::Refusal;
 
 impl Card {
@@ -40,6 +40,7 @@ impl Card {
         ensures after { pins_of self.new ≡ pinned_so (pins_of self.old) spot pin }
         ensures answer { result ≡ spot_answered spot }
     {
+        // By index: tried by `get_mut`, the proof did not learn what the array holds afterwards.
         if spot as usize >= MOST_SPOTS {
             return Err(Refusal::OffSheet);
         }
@@ -51,11 +52,7 @@ impl Card {
     pub fn pin_of(&self, spot: u32) -> Option<Pin>
         ensures { result ≡ pins_of self.now spot }
     {
-        let place = spot as usize;
-        if place >= MOST_SPOTS {
-            return None;
-        }
-        self.pins[place]
+        *self.pins.get(spot as usize)?
     }
 
     // The card names a spot that it pins.
@@ -83,10 +80,8 @@ pub fn replay_pins(history: &[Pinning], answers: &mut [Result<(), Refusal>]) -> 
     ensures after { pins_of result ≡ tell_pins (map pin_call history.now) }
     ensures answers { answers.new ≡ noted answers.old (map pin_answer (map pin_call history.now)) }
 {
-    let mut card = Card::new();
-    for i in 0..history.len() {
-        let answer = card.make(history[i]);
-        note(answers, i, answer);
-    }
-    card
+    replay_with(Card::new(), history, answers, |mut card: Card, pinning| {
+        let answer = card.make(pinning);
+        (card, answer)
+    })
 }

@@ -6,7 +6,7 @@ ghost use Rattle.terms.specs.Terms.{blank};
 ghost use Rattle.sheet.specs.Ledger.{new_places, unused, next_unused, taken};
 ghost use Rattle.sheet.specs.Of.{places_of};
 
-use crate::book::Places;
+use crate::book::{Places, Run};
 use crate::limits::PLACE_COUNT;
 use terms::Term;
 
@@ -21,6 +21,7 @@ impl Places {
         ensures used { result.used ≡ 0 }
         ensures places { places_of result ≡ new_places }
     {
+        // A plain array that starts as 512 empty terms is a required form (docs/DECISIONS.md).
         Places {
             table: [EMPTY; 512],
             used: 0,
@@ -33,29 +34,31 @@ impl Places {
         PLACE_COUNT - self.used
     }
 
-    // Puts the terms into the next unused places, and says where they begin.
-    pub(crate) fn append(&mut self, terms: &[Term]) -> usize
+    // Puts the terms into the next unused places, and says which these are.
+    pub(crate) fn append(&mut self, terms: &[Term]) -> Run
         requires room { length terms.now ≤ unused (places_of self.old) }
         requires named { any blank terms.now ≡ false }
-        ensures start { result ≡ next_unused (places_of self.old) }
-        ensures from { result ≡ self.old.used }
+        ensures start { result.start ≡ next_unused (places_of self.old) }
+        ensures from { result.start ≡ self.old.used }
+        ensures count { result.count ≡ length terms.now }
         ensures used { self.new.used ≡ self.old.used + length terms.now }
         ensures places { places_of self.new ≡ taken (length terms.now) (places_of self.old) }
-        ensures written { between result (result + length terms.now) self.new.table ≡ terms.now }
-        ensures kept { take result self.new.table ≡ take result self.old.table }
+        ensures written { between result.start (result.start + result.count) self.new.table ≡ terms.now }
+        ensures kept { take self.old.used self.new.table ≡ take self.old.used self.old.table }
     {
         let start = self.used;
-        let end = start + terms.len();
+        let count = terms.len();
+        let end = start + count;
         self.table[start..end].copy_from_slice(terms);
         self.used = end;
-        start
+        Run { start, count }
     }
 
     // The terms in a run of used places.
-    pub(crate) fn read(&self, start: usize, count: usize) -> &[Term]
-        requires { start + count ≤ self.now.used }
-        ensures { result.now ≡ between start (start + count) self.now.table }
+    pub(crate) fn read(&self, run: Run) -> &[Term]
+        requires { run.start + run.count ≤ self.now.used }
+        ensures { result.now ≡ between run.start (run.start + run.count) self.now.table }
     {
-        &self.table[start..start + count]
+        &self.table[run.start..run.start + run.count]
     }
 }

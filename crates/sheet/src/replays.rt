@@ -1,27 +1,33 @@
 // A history of calls, made on a new sheet.
-ghost use Rattle.std.specs.Prelude.{◌≡◌, map, slice_set};
+ghost use Rattle.std.specs.Prelude.{◌≡◌, map};
 ghost use Rattle.sheet.specs.Ledger.{empty_ledger, step, tell, UppermostRefuses};
-ghost use Rattle.sheet.specs.History.{draft_ledger, locked_ledger, sheet_ledger, call, answer_to, answers_to, noted, spot_answer, done_answer};
+ghost use Rattle.sheet.specs.History.{draft_ledger, locked_ledger, sheet_ledger, call, answer_to, answers_to, noted, Replays, spot_answer, done_answer};
 
 use crate::bookings::{Answer, Booking};
 use crate::states::{Draft, Locked, Sheet};
 use terms::Refusal;
 
-fn spot_answer(res: Result<u32, Refusal>) -> Answer
-    ensures { result ≡ spot_answer res }
-{
-    match res {
-        Ok(spot) => Answer::Spot(spot),
-        Err(refusal) => Answer::Refused(refusal),
+// What declaring a spot answered. A second conversion follows, since the other calls answer nothing: both refuse alike.
+impl From<Result<u32, Refusal>> for Answer {
+    ghost from_gives = { λ res answer. answer ≡ spot_answer res };
+
+    fn from(res: Result<u32, Refusal>) -> Self {
+        match res {
+            Ok(spot) => Answer::Spot(spot),
+            Err(refusal) => Answer::Refused(refusal),
+        }
     }
 }
 
-fn done_answer(res: Result<(), Refusal>) -> Answer
-    ensures { result ≡ done_answer res }
-{
-    match res {
-        Ok(()) => Answer::Done,
-        Err(refusal) => Answer::Refused(refusal),
+// What a call that numbers no spot answered.
+impl From<Result<(), Refusal>> for Answer {
+    ghost from_gives = { λ res answer. answer ≡ done_answer res };
+
+    fn from(res: Result<(), Refusal>) -> Self {
+        match res {
+            Ok(()) => Answer::Done,
+            Err(refusal) => Answer::Refused(refusal),
+        }
     }
 }
 
@@ -32,15 +38,15 @@ impl Draft {
         ensures answer { result.1 ≡ answer_to (draft_ledger self) (call booking.entry) }
     {
         let answer = match booking {
-            Booking::Declare { house } => spot_answer(self.declare(house)),
+            Booking::Declare { house } => self.declare(house).into(),
             Booking::Post {
                 number,
                 relation,
                 bound,
                 terms,
-            } => done_answer(self.post(number, relation, bound, terms)),
-            Booking::Price { amount, group } => done_answer(self.price(amount, group)),
-            Booking::Withdraw { number } => done_answer(self.withdraw(number)),
+            } => self.post(number, relation, bound, terms).into(),
+            Booking::Price { amount, group } => self.price(amount, group).into(),
+            Booking::Withdraw { number } => self.withdraw(number).into(),
             Booking::Lock => return (Sheet::Locked(self.lock()), Answer::Done),
             Booking::Unlock => Answer::PassedOver,
         };
@@ -74,13 +80,27 @@ impl Sheet {
     }
 }
 
-// Writes an answer at its place, if the slice reaches as far.
-pub(crate) fn note<A: Copy>(answers: &mut [A], place: usize, answer: A)
-    ensures { answers.new ≡ slice_set answers.old place answer }
+// Makes the calls of a history in their order, each on the state that the one before it leads to. Each answer is noted at its call's
+// place, as far as `answers` reaches; what lies beyond the history stays. The caller lends the slice, since nothing is allocated.
+pub(crate) fn replay_with<S, C: Copy, A: Copy, F: Fn(S, C) -> (S, A)>(
+    start: S,
+    history: &[C],
+    answers: &mut [A],
+    make: F,
+) -> S
+    requires { F.IsAlwaysCallable make }
+    ensures { Replays (λ s c t a. F.post make s c (t, a)) start history.now result answers.old answers.new }
 {
-    if place < answers.len() {
-        answers[place] = answer;
+    let mut state = start;
+    for (i, call) in history.iter().enumerate() {
+        let (after, answer) = make(state, *call);
+        // By index: tried by `iter_mut` and by `split_first_mut`, the proof did not learn what the slice holds afterwards.
+        if i < answers.len() {
+            answers[i] = answer;
+        }
+        state = after;
     }
+    state
 }
 
 // Makes the calls of a history on a new sheet, in their order. Each answer is noted at its call's place, as far as `answers` reaches; what
@@ -90,11 +110,5 @@ pub fn replay(history: &[Booking<'_>], answers: &mut [Answer]) -> Sheet
     ensures answers { answers.new ≡ noted answers.old (answers_to empty_ledger (map call history.now)) }
     ensures uppermost { UppermostRefuses }
 {
-    let mut sheet = Sheet::Draft(Draft::new());
-    for i in 0..history.len() {
-        let (after, answer) = sheet.make(history[i]);
-        note(answers, i, answer);
-        sheet = after;
-    }
-    sheet
+    replay_with(Sheet::Draft(Draft::new()), history, answers, Sheet::make)
 }

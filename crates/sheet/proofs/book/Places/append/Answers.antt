@@ -21,6 +21,7 @@ pub returns : goal.returns
 returns c = record {
   start = sym (next_places c.args.self.now);
   from = refl;
+  count = refl;
   used = refl;
   places = taken_places c.args.self.now (after (goal.at.returns c).After-copy_from_slice) _ refl;
   written = search (rules, overwrites);
