@@ -4,10 +4,9 @@ use Rattle.std.specs.List.{range_with_len, flat_map}
 use Rattle.std.specs.Fmt.{signed_decimal}
 use Rattle.terms.specs.Groups.{holds}
 use Rattle.terms.specs.Refusals.{refusal_number, refusal_word}
-use Rattle.terms.specs.Relations.{relation_of}
+use Rattle.terms.specs.Relations.{relation_of, relation_word}
 use Rattle.terms.specs.declared.polynomials.Term.{Term}
 use Rattle.terms.specs.declared.relations.Relation.{Relation}
-use Rattle.terms.specs.declared.relations.Relation.TheVariants.{Equal, AtMost, AtLeast}
 use Rattle.sheet.specs.Ledger.{LiveRule, Call, Declares, Posts, Prices, Withdraws, Locks, Unlocks}
 use Rattle.sheet.specs.declared.bookings.Answer.{Answer}
 use Rattle.sheet.specs.declared.bookings.Answer.TheVariants.{Spot, Done, Refused, PassedOver}
@@ -34,11 +33,6 @@ term_text t = worth_text t.coefficient t.group
 
 abbrev pub terms_text : List Term → List ℕ
 terms_text ts = joined_by (codes " + ") (map term_text ts)
-
-abbrev pub relation_word : Relation → List ℕ
-relation_word Equal = codes "equal to"
-relation_word AtMost = codes "at most"
-relation_word AtLeast = codes "at least"
 
 -- a number that is no relation's is shown as it is
 abbrev pub relation_or_number : Option Relation → ℕ → List ℕ

@@ -1,5 +1,5 @@
 // The calls of a day: a break of 75 seconds is booked for two rival cars, a detergent and a pair that is sold together.
-use lineup::{Booking, Term};
+use lineup::{Booking, Relation, Term};
 
 // Groups of one spot each, in the order of declaration. Bit i stands for spot i.
 const CAR: u32 = 1;
@@ -15,111 +15,34 @@ const SECOND_HALF: u32 = 16;
 // The group of spot 9, which nobody declares.
 const STRANGER: u32 = 512;
 
-// The numbers of the relations.
-const EQUAL_TO: u8 = 0;
-
-const AT_MOST: u8 = 1;
-
-const AT_LEAST: u8 = 2;
+// A sum of terms, each written as its coefficient and its group. A macro, since a constant may not call a function.
+macro_rules! sum {
+    ($($coefficient:literal $group:ident),*) => {
+        &[$(Term { coefficient: $coefficient, group: $group }),*]
+    };
+}
 
 // How long each spot is.
-const SECONDS: [Term; 5] = [
-    Term {
-        coefficient: 30,
-        group: CAR,
-    },
-    Term {
-        coefficient: 20,
-        group: RIVAL,
-    },
-    Term {
-        coefficient: 15,
-        group: DETERGENT,
-    },
-    Term {
-        coefficient: 10,
-        group: FIRST_HALF,
-    },
-    Term {
-        coefficient: 10,
-        group: SECOND_HALF,
-    },
-];
+const SECONDS: &[Term] = sum![30 CAR, 20 RIVAL, 15 DETERGENT, 10 FIRST_HALF, 10 SECOND_HALF];
 
 // How many of the rivals run.
-const RIVALS: [Term; 2] = [
-    Term {
-        coefficient: 1,
-        group: CAR,
-    },
-    Term {
-        coefficient: 1,
-        group: RIVAL,
-    },
-];
+const RIVALS: &[Term] = sum![1 CAR, 1 RIVAL];
 
 // How much more the first half runs than the second.
-const PAIR: [Term; 2] = [
-    Term {
-        coefficient: 1,
-        group: FIRST_HALF,
-    },
-    Term {
-        coefficient: -1,
-        group: SECOND_HALF,
-    },
-];
+const PAIR: &[Term] = sum![1 FIRST_HALF, -1 SECOND_HALF];
 
 // Whether the detergent runs.
-const CLEAN: [Term; 1] = [Term {
-    coefficient: 1,
-    group: DETERGENT,
-}];
+const CLEAN: &[Term] = sum![1 DETERGENT];
 
 // How many of the spots run that are sold alone.
-const SINGLES: [Term; 3] = [
-    Term {
-        coefficient: 1,
-        group: CAR,
-    },
-    Term {
-        coefficient: 1,
-        group: RIVAL,
-    },
-    Term {
-        coefficient: 1,
-        group: DETERGENT,
-    },
-];
+const SINGLES: &[Term] = sum![1 CAR, 1 RIVAL, 1 DETERGENT];
 
 // Terms that no sheet of five spots takes.
-const STRANGERS: [Term; 2] = [
-    Term {
-        coefficient: 1,
-        group: CAR,
-    },
-    Term {
-        coefficient: 1,
-        group: STRANGER,
-    },
-];
+const STRANGERS: &[Term] = sum![1 CAR, 1 STRANGER];
 
-const WEIGHTLESS: [Term; 2] = [
-    Term {
-        coefficient: 0,
-        group: CAR,
-    },
-    Term {
-        coefficient: 1,
-        group: DETERGENT,
-    },
-];
+const WEIGHTLESS: &[Term] = sum![0 CAR, 1 DETERGENT];
 
-const NOTHING: [Term; 0] = [];
-
-pub const CALLS: usize = 30;
-
-pub const DAY: [Booking<'static>; CALLS] = [
+pub const DAY: &[Booking<'static>] = &[
     // The spots, one of them twice.
     Booking::Declare { house: 101 },
     Booking::Declare { house: 102 },
@@ -130,58 +53,58 @@ pub const DAY: [Booking<'static>; CALLS] = [
     // The length of the break, the rivals, the pair (first under a live number), and a provisional rule.
     Booking::Post {
         number: 0,
-        relation: AT_MOST,
+        relation: Relation::AtMost as u8,
         bound: 75,
-        terms: &SECONDS,
+        terms: SECONDS,
     },
     Booking::Post {
         number: 1,
-        relation: AT_MOST,
+        relation: Relation::AtMost as u8,
         bound: 1,
-        terms: &RIVALS,
+        terms: RIVALS,
     },
     Booking::Post {
         number: 1,
-        relation: EQUAL_TO,
+        relation: Relation::Equal as u8,
         bound: 0,
-        terms: &PAIR,
+        terms: PAIR,
     },
     Booking::Post {
         number: 2,
-        relation: EQUAL_TO,
+        relation: Relation::Equal as u8,
         bound: 0,
-        terms: &PAIR,
+        terms: PAIR,
     },
     Booking::Post {
         number: 3,
-        relation: AT_LEAST,
+        relation: Relation::AtLeast as u8,
         bound: 1,
-        terms: &CLEAN,
+        terms: CLEAN,
     },
     // A spot that is not declared, no terms, a relation that is none, and a coefficient of 0.
     Booking::Post {
         number: 4,
-        relation: AT_MOST,
+        relation: Relation::AtMost as u8,
         bound: 1,
-        terms: &STRANGERS,
+        terms: STRANGERS,
     },
     Booking::Post {
         number: 7,
-        relation: AT_MOST,
+        relation: Relation::AtMost as u8,
         bound: 75,
-        terms: &NOTHING,
+        terms: &[],
     },
     Booking::Post {
         number: 4,
         relation: 3,
         bound: 1,
-        terms: &RIVALS,
+        terms: RIVALS,
     },
     Booking::Post {
         number: 4,
-        relation: AT_MOST,
+        relation: Relation::AtMost as u8,
         bound: 1,
-        terms: &WEIGHTLESS,
+        terms: WEIGHTLESS,
     },
     // The prices.
     Booking::Price {
@@ -227,16 +150,16 @@ pub const DAY: [Booking<'static>; CALLS] = [
     Booking::Withdraw { number: 64 },
     Booking::Post {
         number: 3,
-        relation: AT_LEAST,
+        relation: Relation::AtLeast as u8,
         bound: 1,
-        terms: &SINGLES,
+        terms: SINGLES,
     },
     // The sheet is locked, and takes no more.
     Booking::Lock,
     Booking::Post {
         number: 4,
-        relation: AT_MOST,
+        relation: Relation::AtMost as u8,
         bound: 1,
-        terms: &RIVALS,
+        terms: RIVALS,
     },
 ];

@@ -4,39 +4,40 @@
 mod day;
 mod texts;
 
+use day::DAY;
 use lineup::{Answer, Booking, Locked, RULE_NUMBERS, Sheet, replay};
 use std::io;
+use texts::{Line, PriceLine, RuleLine, SpotLine, UnusedPlaces};
 
 // Shows each call with its answer.
-fn show_calls(rt: &HostRuntime, history: &[Booking<'_>], answers: &[Answer]) -> io::Result<()> {
-    for (booking, answer) in history.iter().zip(answers.iter()) {
-        rt.println(texts::line_text(rt.alloc(), *booking, *answer)?)?;
+fn show_calls(rt: &impl Print, history: &[Booking<'_>], answers: &[Answer]) -> io::Result<()> {
+    for (&booking, &answer) in history.iter().zip(answers) {
+        rt.println(Line { booking, answer })?;
     }
     Ok(())
 }
 
 // Shows what stands in a sheet: spots, live rules by rising number, prices in list order, and how many term places are unused.
-fn show_sheet(rt: &HostRuntime, sheet: &Locked) -> io::Result<()> {
-    let heap = rt.alloc();
-    for (spot, house) in sheet.houses().iter().enumerate() {
-        rt.println(texts::spot_text(heap, spot, *house)?)?;
+fn show_sheet(rt: &impl Print, sheet: &Locked) -> io::Result<()> {
+    for (spot, &house) in sheet.houses().iter().enumerate() {
+        rt.println(SpotLine { spot, house })?;
     }
     for number in 0..RULE_NUMBERS as u8 {
         if let Some(rule) = sheet.rule(number) {
-            rt.println(texts::rule_text(heap, number, rule)?)?;
+            rt.println(RuleLine { number, rule })?;
         }
     }
-    for price in sheet.prices() {
-        rt.println(texts::price_text(heap, price.amount, price.group)?)?;
+    for &price in sheet.prices() {
+        rt.println(PriceLine(price))?;
     }
-    rt.println(texts::unused_text(heap, sheet.unused_places())?)
+    rt.println(UnusedPlaces(sheet.unused_places()))
 }
 
-// Makes the calls of a history on a new sheet, and shows them and what stands in the sheet if it is locked.
-fn show_day(rt: &HostRuntime, history: &[Booking<'_>]) -> io::Result<()> {
-    let mut answers = [Answer::PassedOver; day::CALLS];
-    let sheet = replay(history, &mut answers);
-    show_calls(rt, history, &answers)?;
+// Makes the calls of the day on a new sheet, and shows them and what stands in the sheet if it is locked.
+fn show_day(rt: &impl Print) -> io::Result<()> {
+    let mut answers = [Answer::PassedOver; DAY.len()];
+    let sheet = replay(DAY, &mut answers);
+    show_calls(rt, DAY, &answers)?;
     match sheet {
         Sheet::Locked(locked) => show_sheet(rt, &locked),
         Sheet::Draft(_) => Ok(()),
@@ -44,5 +45,5 @@ fn show_day(rt: &HostRuntime, history: &[Booking<'_>]) -> io::Result<()> {
 }
 
 fn main(rt: HostRuntime) -> io::Result<()> {
-    show_day(&rt, &day::DAY)
+    show_day(&rt)
 }

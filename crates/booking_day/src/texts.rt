@@ -1,198 +1,246 @@
 // How calls, answers and what stands in a sheet read.
-ghost use Rattle.std.specs.Prelude.{◌≡◌, ◌<◌, [], ◌++◌, IfOk, if◌then◌else◌, string_bytes, OnOk};
+ghost use Rattle.std.specs.Prelude.{◌≡◌, ◌<◌, Some, option_map};
 ghost use Rattle.terms.specs.Groups.{holds};
-ghost use Rattle.sheet.specs.Ledger.{posting, Posts};
 ghost use Rattle.sheet.specs.History.{call, rule_seen};
-ghost use Rattle.booking_day.specs.Texts.{group_text, worth_text, term_text, terms_text, relation_word, relation_text, bounds_text};
+ghost use Rattle.booking_day.specs.Texts.{group_text, worth_text, term_text, terms_text, relation_text, bounds_text};
 ghost use Rattle.booking_day.specs.Texts.{price_text, call_text, answer_text, line_text, spot_text, rule_text, unused_text};
 
-use lineup::{Answer, Booking, Refusal, Relation, Rule, Term};
-use std::alloc::{AllocError, Global};
+use lineup::{Answer, Booking, Price, Relation, Rule, Term};
+use std::fmt;
 
-// Puts a piece behind others. The separator stands between two.
-fn push_piece(
-    text: &mut String,
-    first: bool,
-    separator: &str,
-    piece: &str,
-) -> Result<(), AllocError>
-    ensures { OnOk result (string_bytes text.new ≡ string_bytes text.old ++ ((if first then [] else separator.now) ++ piece.now)) }
-{
-    if first {
-        return text.push_str(piece);
+// A group's spots by rising number, in braces.
+#[derive(Clone, Copy)]
+struct Group(u32);
+
+impl Group {
+    fn holds(self, spot: u32) -> bool
+        requires { spot < 32 }
+        ensures { result ≡ holds self.0 spot }
+    {
+        (self.0 >> spot) % 2 == 1
     }
-    text.push_str(separator)?;
-    text.push_str(piece)
 }
 
-// The group holds this spot.
-fn has_spot(group: u32, spot: u32) -> bool
-    requires { spot < 32 }
-    ensures { result ≡ holds group spot }
-{
-    (group >> spot) % 2 == 1
-}
+impl fmt::Display for Group {
+    ghost output = { λ group. Some (group_text group.0) };
 
-pub fn group_text(heap: Global, group: u32) -> Result<String, AllocError>
-    ensures { IfOk result (λ s. string_bytes s ≡ group_text group) }
-{
-    let mut text = String::from_str(heap, "{")?;
-    let mut first = true;
-    for spot in 0..32 {
-        if has_spot(group, spot) {
-            let number = format!(in heap; "{spot}")?;
-            push_piece(&mut text, first, " ", number.as_str())?;
-            first = false;
+    fn fmt<W: fmt::Write>(&self, f: &mut fmt::Formatter<W>) -> fmt::Result {
+        f.write_str("{")?;
+        // No `filter`: with a closure in a function that is generic over its writer, the proof of the loop did not close.
+        let mut separator = "";
+        for spot in 0..32 {
+            if self.holds(spot) {
+                write!(f, "{separator}{spot}")?;
+                separator = " ";
+            }
         }
+        f.write_str("}")
     }
-    text.push_str("}")?;
-    Ok(text)
 }
 
 // What a group is worth.
-fn worth_text(heap: Global, worth: i32, group: u32) -> Result<String, AllocError>
-    ensures { IfOk result (λ s. string_bytes s ≡ worth_text worth group) }
-{
-    let group = group_text(heap, group)?;
-    format!(in heap; "{worth} {group}")
-}
+#[derive(Clone, Copy)]
+struct Worth(i32, Group);
 
-fn term_text(heap: Global, term: Term) -> Result<String, AllocError>
-    ensures { IfOk result (λ s. string_bytes s ≡ term_text term) }
-{
-    worth_text(heap, term.coefficient, term.group)
-}
+impl fmt::Display for Worth {
+    ghost output = { λ w. Some (worth_text w.0 w.1.0) };
 
-pub fn terms_text(heap: Global, terms: &[Term]) -> Result<String, AllocError>
-    ensures { IfOk result (λ s. string_bytes s ≡ terms_text terms.now) }
-{
-    let mut text = String::new(heap);
-    for i in 0..terms.len() {
-        let term = term_text(heap, terms[i])?;
-        push_piece(&mut text, i == 0, " + ", term.as_str())?;
-    }
-    Ok(text)
-}
-
-fn relation_word(relation: Relation) -> &'static str
-    ensures { result.now ≡ relation_word relation }
-{
-    match relation {
-        Relation::Equal => "equal to",
-        Relation::AtMost => "at most",
-        Relation::AtLeast => "at least",
+    fn fmt<W: fmt::Write>(&self, f: &mut fmt::Formatter<W>) -> fmt::Result {
+        let Worth(worth, group) = *self;
+        write!(f, "{worth} {group}")
     }
 }
 
-pub fn relation_text(heap: Global, number: u8) -> Result<String, AllocError>
-    ensures { IfOk result (λ s. string_bytes s ≡ relation_text number) }
-{
-    match Relation::of_number(number) {
-        Some(relation) => String::from_str(heap, relation_word(relation)),
-        None => format!(in heap; "relation {number}"),
+// A term of a sum.
+#[derive(Clone, Copy)]
+struct Summand(Term);
+
+impl fmt::Display for Summand {
+    ghost output = { λ s. Some (term_text s.0) };
+
+    fn fmt<W: fmt::Write>(&self, f: &mut fmt::Formatter<W>) -> fmt::Result {
+        let Term { coefficient, group } = self.0;
+        write!(f, "{}", Worth(coefficient, Group(group)))
+    }
+}
+
+// Terms with a plus between each two.
+#[derive(Clone, Copy)]
+struct Sum<'a>(&'a [Term]);
+
+impl fmt::Display for Sum<'_> {
+    ghost output = { λ s. Some (terms_text s.0.now) };
+
+    fn fmt<W: fmt::Write>(&self, f: &mut fmt::Formatter<W>) -> fmt::Result {
+        let Some((&first, others)) = self.0.split_first() else {
+            return Ok(());
+        };
+        write!(f, "{}", Summand(first))?;
+        for &term in others {
+            write!(f, " + {}", Summand(term))?;
+        }
+        Ok(())
+    }
+}
+
+// A relation by its number, which is shown as it is where no relation has it.
+#[derive(Clone, Copy)]
+struct NumberedRelation(u8);
+
+impl fmt::Display for NumberedRelation {
+    ghost output = { λ r. Some (relation_text r.0) };
+
+    fn fmt<W: fmt::Write>(&self, f: &mut fmt::Formatter<W>) -> fmt::Result {
+        let number = self.0;
+        match Relation::try_from(number) {
+            Ok(relation) => write!(f, "{relation}"),
+            Err(_) => write!(f, "relation {number}"),
+        }
     }
 }
 
 // A rule, from its number on.
-fn bounds_text(
-    heap: Global,
+#[derive(Clone, Copy)]
+struct Bounds<'a, R> {
     number: u8,
-    relation: &str,
+    relation: R,
     bound: i32,
-    terms: &[Term],
-) -> Result<String, AllocError>
-    ensures { IfOk result (λ s. string_bytes s ≡ bounds_text number relation.now bound terms.now) }
-{
-    if terms.is_empty() {
-        return format!(in heap; "{number} {relation} {bound}:");
-    }
-    let sum = terms_text(heap, terms)?;
-    format!(in heap; "{number} {relation} {bound}: {sum}")
+    terms: &'a [Term],
 }
 
-pub fn price_text(heap: Global, amount: i32, group: u32) -> Result<String, AllocError>
-    ensures { IfOk result (λ s. string_bytes s ≡ price_text amount group) }
-{
-    let worth = worth_text(heap, amount, group)?;
-    format!(in heap; "price {worth}")
-}
+impl<R: fmt::Display> fmt::Display for Bounds<'_, R> {
+    ghost output = { λ b. option_map (λ relation. bounds_text b.number relation b.bound b.terms.now) (R.output b.relation) };
 
-fn post_text(
-    heap: Global,
-    number: u8,
-    relation: u8,
-    bound: i32,
-    terms: &[Term],
-) -> Result<String, AllocError>
-    ensures { IfOk result (λ s. string_bytes s ≡ call_text (Posts (posting number relation bound terms.now))) }
-{
-    let relation = relation_text(heap, relation)?;
-    let bounds = bounds_text(heap, number, relation.as_str(), bound, terms)?;
-    format!(in heap; "post {bounds}")
-}
-
-pub fn booking_text(heap: Global, booking: Booking<'_>) -> Result<String, AllocError>
-    ensures { IfOk result (λ s. string_bytes s ≡ call_text (call booking.entry)) }
-{
-    match booking {
-        Booking::Declare { house } => format!(in heap; "declare {house}"),
-        Booking::Post {
-            number,
-            relation,
-            bound,
-            terms,
-        } => post_text(heap, number, relation, bound, terms),
-        Booking::Price { amount, group } => price_text(heap, amount, group),
-        Booking::Withdraw { number } => format!(in heap; "withdraw {number}"),
-        Booking::Lock => String::from_str(heap, "lock"),
-        Booking::Unlock => String::from_str(heap, "unlock"),
+    fn fmt<W: fmt::Write>(&self, f: &mut fmt::Formatter<W>) -> fmt::Result {
+        write!(f, "{} {} {}:", self.number, self.relation, self.bound)?;
+        if self.terms.is_empty() {
+            return Ok(());
+        }
+        write!(f, " {}", Sum(self.terms))
     }
 }
 
-fn refusal_text(heap: Global, refusal: Refusal) -> Result<String, AllocError>
-    ensures { IfOk result (λ s. string_bytes s ≡ answer_text (Answer.Refused refusal)) }
-{
-    let number = refusal.number();
-    let word = refusal.word();
-    format!(in heap; "refused {number} {word}")
+// A price.
+#[derive(Clone, Copy)]
+pub struct PriceLine(pub Price);
+
+impl fmt::Display for PriceLine {
+    ghost output = { λ p. Some (price_text p.0.amount p.0.group) };
+
+    fn fmt<W: fmt::Write>(&self, f: &mut fmt::Formatter<W>) -> fmt::Result {
+        let Price { amount, group } = self.0;
+        write!(f, "price {}", Worth(amount, Group(group)))
+    }
 }
 
-pub fn answer_text(heap: Global, answer: Answer) -> Result<String, AllocError>
-    ensures { IfOk result (λ s. string_bytes s ≡ answer_text answer) }
-{
-    match answer {
-        Answer::Spot(spot) => format!(in heap; "spot {spot}"),
-        Answer::Done => String::from_str(heap, "done"),
-        Answer::Refused(refusal) => refusal_text(heap, refusal),
-        Answer::PassedOver => String::from_str(heap, "passed over"),
+// A call.
+#[derive(Clone, Copy)]
+struct Call<'a>(Booking<'a>);
+
+impl fmt::Display for Call<'_> {
+    ghost output = { λ c. Some (call_text (call c.0)) };
+
+    fn fmt<W: fmt::Write>(&self, f: &mut fmt::Formatter<W>) -> fmt::Result {
+        match self.0 {
+            Booking::Declare { house } => write!(f, "declare {house}"),
+            Booking::Post {
+                number,
+                relation,
+                bound,
+                terms,
+            } => {
+                let bounds = Bounds {
+                    number,
+                    relation: NumberedRelation(relation),
+                    bound,
+                    terms,
+                };
+                write!(f, "post {bounds}")
+            }
+            Booking::Price { amount, group } => write!(f, "{}", PriceLine(Price { amount, group })),
+            Booking::Withdraw { number } => write!(f, "withdraw {number}"),
+            Booking::Lock => f.write_str("lock"),
+            Booking::Unlock => f.write_str("unlock"),
+        }
+    }
+}
+
+// An answer.
+#[derive(Clone, Copy)]
+struct Reply(Answer);
+
+impl fmt::Display for Reply {
+    ghost output = { λ r. Some (answer_text r.0) };
+
+    fn fmt<W: fmt::Write>(&self, f: &mut fmt::Formatter<W>) -> fmt::Result {
+        match self.0 {
+            Answer::Spot(spot) => write!(f, "spot {spot}"),
+            Answer::Done => f.write_str("done"),
+            Answer::Refused(refusal) => write!(f, "refused {} {refusal}", refusal.number()),
+            Answer::PassedOver => f.write_str("passed over"),
+        }
     }
 }
 
 // A call with its answer.
-pub fn line_text(heap: Global, booking: Booking<'_>, answer: Answer) -> Result<String, AllocError>
-    ensures { IfOk result (λ s. string_bytes s ≡ line_text (call booking.entry) answer) }
-{
-    let booking = booking_text(heap, booking)?;
-    let answer = answer_text(heap, answer)?;
-    format!(in heap; "{booking} -> {answer}")
+#[derive(Clone, Copy)]
+pub struct Line<'a> {
+    pub booking: Booking<'a>,
+    pub answer: Answer,
 }
 
-pub fn spot_text(heap: Global, spot: usize, house: u32) -> Result<String, AllocError>
-    ensures { IfOk result (λ s. string_bytes s ≡ spot_text spot house) }
-{
-    format!(in heap; "spot {spot} house {house}")
+impl fmt::Display for Line<'_> {
+    ghost output = { λ l. Some (line_text (call l.booking) l.answer) };
+
+    fn fmt<W: fmt::Write>(&self, f: &mut fmt::Formatter<W>) -> fmt::Result {
+        write!(f, "{} -> {}", Call(self.booking), Reply(self.answer))
+    }
 }
 
-pub fn rule_text(heap: Global, number: u8, rule: Rule<'_>) -> Result<String, AllocError>
-    ensures { IfOk result (λ s. string_bytes s ≡ rule_text number (rule_seen rule.entry)) }
-{
-    let relation = relation_word(rule.relation);
-    let bounds = bounds_text(heap, number, relation, rule.bound, rule.terms)?;
-    format!(in heap; "rule {bounds}")
+// A spot with its house number.
+#[derive(Clone, Copy)]
+pub struct SpotLine {
+    pub spot: usize,
+    pub house: u32,
 }
 
-pub fn unused_text(heap: Global, places: usize) -> Result<String, AllocError>
-    ensures { IfOk result (λ s. string_bytes s ≡ unused_text places) }
-{
-    format!(in heap; "unused places {places}")
+impl fmt::Display for SpotLine {
+    ghost output = { λ s. Some (spot_text s.spot s.house) };
+
+    fn fmt<W: fmt::Write>(&self, f: &mut fmt::Formatter<W>) -> fmt::Result {
+        write!(f, "spot {} house {}", self.spot, self.house)
+    }
+}
+
+// A live rule with its number.
+#[derive(Clone, Copy)]
+pub struct RuleLine<'a> {
+    pub number: u8,
+    pub rule: Rule<'a>,
+}
+
+impl fmt::Display for RuleLine<'_> {
+    ghost output = { λ r. Some (rule_text r.number (rule_seen r.rule)) };
+
+    fn fmt<W: fmt::Write>(&self, f: &mut fmt::Formatter<W>) -> fmt::Result {
+        let bounds = Bounds {
+            number: self.number,
+            relation: self.rule.relation,
+            bound: self.rule.bound,
+            terms: self.rule.terms,
+        };
+        write!(f, "rule {bounds}")
+    }
+}
+
+// How many term places are unused.
+#[derive(Clone, Copy)]
+pub struct UnusedPlaces(pub usize);
+
+impl fmt::Display for UnusedPlaces {
+    ghost output = { λ u. Some (unused_text u.0) };
+
+    fn fmt<W: fmt::Write>(&self, f: &mut fmt::Formatter<W>) -> fmt::Result {
+        write!(f, "unused places {}", self.0)
+    }
 }
