@@ -1,5 +1,5 @@
 // A sheet with rules over scattered spots.
-use lineup::{Draft, Locked, MOST_SPOTS, Refusal, Term};
+use lineup::{Draft, Locked, MOST_SPOTS, Refusal, Relation, Term};
 use std::alloc::{AllocError, Global};
 
 // The spots that the rules are about, each as the group of that spot alone.
@@ -35,12 +35,10 @@ const EVERY_SPOT: u32 = SPOT_0
     | SPOT_30
     | SPOT_31;
 
-// The relation and the bound of every rule; the tables are about neither.
-const AT_MOST: u8 = 1;
-
+// The bound of every rule; the tables are about neither it nor the relation.
 const BOUND: i32 = 100;
 
-// A coefficient and its group.
+// A coefficient and its group: as a `Term` written out each would take four lines.
 type Product = (i32, u32);
 
 // A rule's number and its products.
@@ -89,17 +87,6 @@ const RULES: [(u8, &[Product]); 6] = [
     ),
 ];
 
-fn terms_of(heap: Global, products: &[Product]) -> Result<Vec<Term>, AllocError> {
-    let mut terms = Vec::new(heap);
-    for (coefficient, group) in products {
-        terms.push(Term {
-            coefficient: *coefficient,
-            group: *group,
-        })?;
-    }
-    Ok(terms)
-}
-
 fn declare_spots(draft: &mut Draft) -> Result<(), Refusal> {
     for house in 0..MOST_SPOTS as u32 {
         draft.declare(house)?;
@@ -112,8 +99,11 @@ pub fn booked_sheet(heap: Global) -> Result<Locked, AllocError> {
     let mut draft = Draft::new();
     let _ = declare_spots(&mut draft);
     for (number, products) in RULES {
-        let terms = terms_of(heap, products)?;
-        let _ = draft.post(number, AT_MOST, BOUND, &terms);
+        let terms: Vec<Term> = products
+            .iter()
+            .map(|&(coefficient, group)| Term { coefficient, group })
+            .collect(heap)?;
+        let _ = draft.post(number, Relation::AtMost.number(), BOUND, &terms);
     }
     Ok(draft.lock())
 }

@@ -1,6 +1,6 @@
 // Random tables of one length, converted there and back and compared with plain enumeration.
 use crate::numbers::{Generator, Spread};
-use crate::ways::{Way, is_in_range};
+use crate::sums::{ToTerms, ToValues, Way, is_in_range};
 use lineup::Refusal;
 use std::alloc::{AllocError, Global};
 use std::fmt;
@@ -8,7 +8,7 @@ use std::fmt;
 const PAIRS_OF_TABLES: usize = 4;
 
 // How one of the two conversions went for some tables.
-#[derive(Drop)]
+#[derive(Default, Drop)]
 pub struct Count {
     // Tables that became what enumeration gives.
     converted: u32,
@@ -19,23 +19,17 @@ pub struct Count {
 }
 
 impl Count {
-    fn new() -> Self {
-        Count {
-            converted: 0,
-            restored: 0,
-            out_of_range: 0,
-        }
-    }
-
     // Converts a table, and then back. Whatever goes wrong is not counted.
-    fn add(&mut self, heap: Global, way: Way, table: &[i64]) -> Result<(), AllocError> {
-        let expected = way.enumerated(heap, table)?;
+    fn add<W: Way>(&mut self, heap: Global, table: &[i64]) -> Result<(), AllocError> {
+        let expected: Vec<i64> = (0..table.len())
+            .map(|group| W::entry_at(table, group))
+            .collect(heap)?;
         let mut converted = table.to_vec(heap)?;
-        if way.convert(&mut converted).is_err() || converted != expected {
+        if W::convert(&mut converted).is_err() || converted != expected {
             return Ok(());
         }
         self.converted = self.converted.wrapping_add(1);
-        let answer = way.back().convert(&mut converted);
+        let answer = W::back(&mut converted);
         if is_in_range(&expected) {
             if answer == Ok(()) && converted.as_slice() == table {
                 self.restored = self.restored.wrapping_add(1);
@@ -60,7 +54,7 @@ impl fmt::Display for Count {
 }
 
 // How both conversions went for tables of one length.
-#[derive(Drop)]
+#[derive(Default, Drop)]
 pub struct Counts {
     pub to_values: Count,
     pub to_terms: Count,
@@ -72,11 +66,7 @@ fn random_table(
     spread: Spread,
     length: usize,
 ) -> Result<Vec<i64>, AllocError> {
-    let mut table = Vec::new(heap);
-    for _ in 0..length {
-        table.push(generator.entry(spread))?;
-    }
-    Ok(table)
+    (0..length).map(|_| generator.entry(spread)).collect(heap)
 }
 
 // Converts random tables of this length, half of them of small entries.
@@ -85,15 +75,12 @@ pub fn count_tables(
     generator: &mut Generator,
     length: usize,
 ) -> Result<Counts, AllocError> {
-    let mut counts = Counts {
-        to_values: Count::new(),
-        to_terms: Count::new(),
-    };
+    let mut counts = Counts::default();
     for _ in 0..PAIRS_OF_TABLES {
         for spread in [Spread::Whole, Spread::Small] {
             let table = random_table(heap, generator, spread, length)?;
-            counts.to_values.add(heap, Way::ToValues, &table)?;
-            counts.to_terms.add(heap, Way::ToTerms, &table)?;
+            counts.to_values.add::<ToValues>(heap, &table)?;
+            counts.to_terms.add::<ToTerms>(heap, &table)?;
         }
     }
     Ok(counts)

@@ -5,13 +5,13 @@ mod bookings;
 mod lengths;
 mod numbers;
 mod rules;
-mod ways;
+mod sums;
 
-use lineup::RULE_NUMBERS;
+use lineup::{MOST_ENTRIES, RULE_NUMBERS};
 use numbers::Generator;
 use std::io;
 
-const LENGTHS: [usize; 11] = [1, 2, 4, 8, 16, 32, 64, 128, 256, 512, 1_024];
+const LENGTHS: [usize; 11] = [1, 2, 4, 8, 16, 32, 64, 128, 256, 512, MOST_ENTRIES];
 
 const SEED: u64 = 2_026;
 

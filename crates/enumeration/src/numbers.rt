@@ -1,24 +1,25 @@
 // Numbers that look random and are the same in every run.
-use lineup::MOST_ENTRY;
+use lineup::{MOST_ENTRIES, MOST_ENTRY};
 
 // How far the entries of a table go, up and down from 0.
 #[derive(Clone, Copy)]
 pub enum Spread {
     // As far as a conversion takes them.
     Whole,
-    // So far that the sum of 1,024 of them is still taken.
+    // So far that the sum of a whole table of them is still taken.
     Small,
 }
 
-const SMALL_ENTRY: u64 = MOST_ENTRY / 1_024;
+const SMALL_ENTRY: u64 = MOST_ENTRY / MOST_ENTRIES as u64;
 
 impl Spread {
     // Brings a number down to the size of an entry.
     fn size_of(self, number: u64) -> i64 {
-        match self {
-            Spread::Whole => (number % (MOST_ENTRY + 1)) as i64,
-            Spread::Small => (number % (SMALL_ENTRY + 1)) as i64,
-        }
+        let most = match self {
+            Spread::Whole => MOST_ENTRY,
+            Spread::Small => SMALL_ENTRY,
+        };
+        (number % (most + 1)) as i64
     }
 }
 

@@ -1,49 +1,36 @@
-// A rule's table over the spots that the rule names, compared with the rule's sum at every line-up of them.
+// A rule's table over the spots that the rule names, compared with the rule's sum at every line-up of them: by functions of its own, on purpose.
 use lineup::{Term, to_terms, to_values};
 use std::alloc::{AllocError, Global};
 use std::fmt;
 
 // The group of all spots that some term names.
 fn named(terms: &[Term]) -> u32 {
-    let mut group = 0;
-    for term in terms {
-        group |= term.group;
-    }
-    group
+    terms.iter().fold(0u32, |group, term| group | term.group)
 }
 
 // The spots of a group in rising order. Each stands as the group of that spot alone.
 fn spots_of(heap: Global, group: u32) -> Result<Vec<u32>, AllocError> {
-    let mut spots = Vec::new(heap);
-    for spot in 0..32 {
-        let alone = 1u32.wrapping_shl(spot);
-        if group & alone != 0 {
-            spots.push(alone)?;
-        }
-    }
-    Ok(spots)
+    (0..u32::BITS)
+        .map(|spot| 1u32.wrapping_shl(spot))
+        .filter(|alone| group & *alone != 0)
+        .collect(heap)
 }
 
 // A group of some spots as a place in a table over those spots: bit i stands for the spot at place i.
 fn packed(spots: &[u32], group: u32) -> usize {
-    let mut place = 0usize;
-    for spot in spots.iter().rev() {
-        place = place << 1 | usize::from(group & *spot != 0);
-    }
-    place
+    spots.iter().rev().fold(
+        0usize,
+        |place, spot| place << 1 | usize::from(group & *spot != 0),
+    )
 }
 
 // The group that stands at a place.
 fn unpacked(spots: &[u32], place: usize) -> u32 {
-    let mut group = 0;
-    let mut bits = place;
-    for spot in spots {
-        if bits % 2 == 1 {
-            group |= *spot;
-        }
-        bits /= 2;
-    }
-    group
+    spots
+        .iter()
+        .zip(0..u32::BITS)
+        .filter(|(_, bit)| place.wrapping_shr(*bit) % 2 == 1)
+        .fold(0u32, |group, (spot, _)| group | *spot)
 }
 
 // The table with each coefficient at its group, over these spots.
@@ -60,24 +47,22 @@ fn term_table(heap: Global, spots: &[u32], terms: &[Term]) -> Result<Vec<i64>, A
 
 // What the terms are worth together at a line-up.
 fn sum_at(terms: &[Term], line_up: u32) -> i64 {
-    let mut sum = 0i64;
-    for term in terms {
-        if term.group & line_up == term.group {
-            sum = sum.wrapping_add(i64::from(term.coefficient));
-        }
-    }
-    sum
+    terms
+        .iter()
+        .filter(|term| term.group & line_up == term.group)
+        .fold(
+            0i64,
+            |sum, term| sum.wrapping_add(i64::from(term.coefficient)),
+        )
 }
 
 // How many entries of a table of values are the sums of the terms.
 fn count_sums(spots: &[u32], terms: &[Term], values: &[i64]) -> usize {
-    let mut agreed = 0usize;
-    for (place, value) in values.iter().enumerate() {
-        if sum_at(terms, unpacked(spots, place)) == *value {
-            agreed = agreed.wrapping_add(1);
-        }
-    }
-    agreed
+    values
+        .iter()
+        .enumerate()
+        .filter(|(place, value)| sum_at(terms, unpacked(spots, *place)) == **value)
+        .count()
 }
 
 // How the conversion of a rule's table went.

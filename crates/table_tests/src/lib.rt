@@ -2,10 +2,10 @@
 #![tactic(auto)]
 
 #[cfg(test)]
+mod checks;
+#[cfg(test)]
 mod lengths;
 #[cfg(test)]
 mod pairs;
 #[cfg(test)]
 mod ranges;
-#[cfg(test)]
-mod ways;

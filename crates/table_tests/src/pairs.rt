@@ -1,5 +1,5 @@
 // Tests of tables of terms with the tables of their values.
-use crate::ways::*;
+use crate::checks::Checks;
 use std::test::Fail;
 
 // Terms, and their values.
@@ -14,8 +14,12 @@ const PAIRS: [(&[i64], &[i64]); 6] = [
 
 #[test]
 fn terms_have_their_values(rt: HostRuntime) -> Result<(), Fail> {
+    let checks = Checks {
+        rt: &rt,
+        heap: rt.alloc(),
+    };
     for (terms, values) in PAIRS {
-        belong(&rt, rt.alloc(), terms, values)?;
+        checks.belong(terms, values)?;
     }
     Ok(())
 }
@@ -40,5 +44,9 @@ fn a_table_is_restored_both_ways(rt: HostRuntime) -> Result<(), Fail> {
         -999_999_999_999,
         6,
     ];
-    restored(&rt, rt.alloc(), &mixed)
+    let checks = Checks {
+        rt: &rt,
+        heap: rt.alloc(),
+    };
+    checks.restored(&mixed)
 }
