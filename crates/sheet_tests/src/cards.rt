@@ -1,8 +1,8 @@
 // Tests of pin cards.
+use crate::desk::assert_noted;
 use lineup::Pin::*;
 use lineup::Refusal::*;
 use lineup::*;
-use std::alloc::Global;
 use std::process::Abort;
 use std::test::Fail;
 
@@ -14,25 +14,23 @@ fn unpin(spot: u32) -> Pinning {
     Pinning::Unpin { spot }
 }
 
-// The spots that a card names, with their pins.
-fn pins_of(rt: &impl Abort, heap: Global, card: &Card) -> Result<Vec<(u32, Pin)>, Fail> {
-    let mut pins = Vec::new(heap);
-    for spot in 0..100 {
-        let found = card.pin_of(spot);
-        assert_eq!(rt; card.names(spot), found.is_some());
-        if let Some(pin) = found {
-            pins.push((spot, pin))?;
-        }
+// The card names these spots, with these pins, and no other.
+fn assert_pins(rt: &impl Abort, card: &Card, pins: &[(u32, Pin)]) {
+    for spot in (0..100).chain([u32::MAX]) {
+        let found = pins.iter().find(|(pinned, _)| *pinned == spot);
+        assert_eq!(rt;
+            card.pin_of(spot),
+            found.map(|(_, pin)| *pin),
+            "spot {spot}"
+        );
+        assert_eq!(rt; card.names(spot), found.is_some(), "spot {spot}");
     }
-    assert_eq!(rt; card.pin_of(u32::MAX), None);
-    assert!(rt; !card.names(u32::MAX));
-    Ok(pins)
 }
 
 // A spot, the pin that it is given or loses, the answer, and the pins that the card then has.
 type Step = (u32, Option<Pin>, Result<(), Refusal>, &'static [(u32, Pin)]);
 
-const STEPS: [Step; 14] = [
+static STEPS: [Step; 14] = [
     (0, None, Ok(()), &[]),
     (31, Some(Out), Ok(()), &[(31, Out)]),
     (0, Some(In), Ok(()), &[(0, In), (31, Out)]),
@@ -50,39 +48,36 @@ const STEPS: [Step; 14] = [
 ];
 
 #[test]
-fn spots_are_pinned_and_cleared(rt: HostRuntime) -> Result<(), Fail> {
-    let heap = rt.alloc();
+fn spots_are_pinned_and_cleared(rt: HostRuntime) {
     let mut card = Card::new();
-    assert!(rt; pins_of(&rt, heap, &card)?.is_empty());
-    for (spot, wish, answer, pins) in STEPS {
+    assert_pins(&rt, &card, &[]);
+    for &(spot, wish, answer, pins) in &STEPS {
         let got = match wish {
             Some(pin) => card.pin(spot, pin),
             None => card.unpin(spot),
         };
         assert_eq!(rt; got, answer);
-        assert_eq!(rt; pins_of(&rt, heap, &card)?.as_slice(), pins);
+        assert_pins(&rt, &card, pins);
     }
-    Ok(())
 }
 
 #[test]
 fn a_card_has_32_spots(rt: HostRuntime) -> Result<(), Fail> {
-    let heap = rt.alloc();
     let mut card = Card::new();
-    let mut pins = Vec::new(heap);
+    // The pins grow with the card, which is looked at after each.
+    let mut pins = Vec::new(rt.alloc());
     for spot in 0..32 {
         assert_eq!(rt; card.pin(spot, Out), Ok(()));
         pins.push((spot, Out))?;
-        assert_eq!(rt; &pins_of(&rt, heap, &card)?, &pins);
+        assert_pins(&rt, &card, &pins);
     }
     assert_eq!(rt; card.pin(32, Out), Err(OffSheet));
-    assert_eq!(rt; pins_of(&rt, heap, &card)?, pins);
+    assert_pins(&rt, &card, &pins);
     Ok(())
 }
 
 #[test]
 fn a_history_of_pins_is_replayed(rt: HostRuntime) -> Result<(), Fail> {
-    let heap = rt.alloc();
     let history = [
         pin(3, In),
         pin(32, In),
@@ -93,29 +88,15 @@ fn a_history_of_pins_is_replayed(rt: HostRuntime) -> Result<(), Fail> {
         pin(0, In),
     ];
     let mut card = Card::new();
-    let mut made = Vec::new(heap);
-    for pinning in history {
-        made.push(card.make(pinning))?;
-    }
-    assert_eq!(rt;
-        pins_of(&rt, heap, &card)?.as_slice(),
-        [(0, In), (3, Out)].as_slice()
-    );
+    let made = history.map(|pinning| card.make(pinning));
+    assert_pins(&rt, &card, &[(0, In), (3, Out)]);
     for room in 0..10 {
-        let mut answers = vec![in heap; Err(Short); room]?;
+        let mut answers = vec![in rt.alloc(); Err(Short); room]?;
         let replayed = replay_pins(&history, &mut answers);
-        assert_eq!(rt;
-            pins_of(&rt, heap, &replayed)?.as_slice(),
-            [(0, In), (3, Out)].as_slice()
-        );
-        for (i, answer) in answers.iter().enumerate() {
-            assert_eq!(rt; *answer, made.get(i).copied().unwrap_or(Err(Short)));
-        }
+        assert_pins(&rt, &replayed, &[(0, In), (3, Out)]);
+        assert_noted(&rt, &answers, &made, Err(Short));
     }
     let off = Err(OffSheet);
-    assert_eq!(rt;
-        made.as_slice(),
-        [Ok(()), off, Ok(()), Ok(()), off, Ok(()), Ok(())].as_slice()
-    );
+    assert_eq!(rt; made, [Ok(()), off, Ok(()), Ok(()), off, Ok(()), Ok(())]);
     Ok(())
 }

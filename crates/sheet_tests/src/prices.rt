@@ -3,22 +3,14 @@ use crate::desk::*;
 use lineup::Answer::*;
 use lineup::Refusal::*;
 use lineup::*;
-use std::alloc::{AllocError, Global};
+use std::alloc::Global;
+use std::process::Abort;
 use std::test::Fail;
-
-// The price list as amounts and groups.
-fn list_of(heap: Global, draft: &mut Draft) -> Result<Vec<(i32, u32)>, AllocError> {
-    let mut list = Vec::new(heap);
-    for price in look_into(heap, draft)?.prices {
-        list.push((price.amount, price.group))?;
-    }
-    Ok(list)
-}
 
 #[test]
 fn amounts_and_groups_have_limits(rt: HostRuntime) -> Result<(), Fail> {
     let heap = rt.alloc();
-    let mut draft = draft_of(&rt, 12);
+    let mut desk = Desk::with_spots(&rt, heap, 12);
     let calls = [
         (post(0, 1, 9, &PAIR), Done),
         (price(1, 1), Done),
@@ -40,14 +32,14 @@ fn amounts_and_groups_have_limits(rt: HostRuntime) -> Result<(), Fail> {
         (price(1_000_001, 0), Refused(Blank)),
         (price(i32::MIN, u32::MAX), Refused(OffSheet)),
     ];
-    story(&rt, heap, &mut draft, &calls)?;
+    desk.story(&calls)?;
     let list = [(1, 1), (-1, 0x800), (1_000_000, 3), (-1_000_000, 0x3ff)];
-    assert_eq!(rt; list_of(heap, &mut draft)?.as_slice(), list.as_slice());
+    assert_eq!(rt; desk.prices()?.as_slice(), list.as_slice());
     Ok(())
 }
 
 // An amount, its group, and the list as it stands once the group has the amount.
-const STEPS: [(i32, u32, &[(i32, u32)]); 15] = [
+static STEPS: [(i32, u32, &[(i32, u32)]); 15] = [
     (0, 1, &[]),
     (10, 4, &[(10, 4)]),
     (20, 1, &[(10, 4), (20, 1)]),
@@ -68,23 +60,28 @@ const STEPS: [(i32, u32, &[(i32, u32)]); 15] = [
 #[test]
 fn the_list_keeps_its_order(rt: HostRuntime) -> Result<(), Fail> {
     let heap = rt.alloc();
-    let mut draft = draft_of(&rt, 3);
-    for (amount, group, list) in STEPS {
-        tell(&rt, heap, &mut draft, price(amount, group), Done)?;
-        assert_eq!(rt; list_of(heap, &mut draft)?.as_slice(), list);
+    let mut desk = Desk::with_spots(&rt, heap, 3);
+    for &(amount, group, list) in &STEPS {
+        desk.tell(price(amount, group), Done)?;
+        assert_eq!(rt; desk.prices()?.as_slice(), list);
     }
     Ok(())
+}
+
+// A desk whose draft has prices of 5 for the groups 1 to 128.
+fn with_full_list<R: Abort>(rt: &R, heap: Global) -> Result<Desk<'_, R>, Fail> {
+    let mut desk = Desk::with_spots(rt, heap, 12);
+    for group in 1..=128 {
+        desk.tell(price(5, group), Done)?;
+    }
+    Ok(desk)
 }
 
 #[test]
 fn a_list_has_128_prices(rt: HostRuntime) -> Result<(), Fail> {
     let heap = rt.alloc();
-    let mut draft = draft_of(&rt, 12);
-    let mut list = Vec::new(heap);
-    for group in 1..=128 {
-        tell(&rt, heap, &mut draft, price(5, group), Done)?;
-        list.push((5, group))?;
-    }
+    let mut desk = with_full_list(&rt, heap)?;
+    let list: Vec<(i32, u32)> = (1..=128).map(|group| (5, group)).collect(heap)?;
     let full = [
         (price(5, 129), Refused(Full)),
         (price(5, 0), Refused(Full)),
@@ -97,19 +94,20 @@ fn a_list_has_128_prices(rt: HostRuntime) -> Result<(), Fail> {
         (price(0, 129), Done),
         (price(5, 128), Done),
     ];
-    story(&rt, heap, &mut draft, &full)?;
-    assert_eq!(rt; list_of(heap, &mut draft)?, list);
+    desk.story(&full)?;
+    assert_eq!(rt; desk.prices()?, list);
     let exchange = [
         (price(0, 64), Done),
         (price(6, 129), Done),
         (price(5, 64), Refused(Full)),
         (price(7, 1), Done),
     ];
-    story(&rt, heap, &mut draft, &exchange)?;
-    let list = list_of(heap, &mut draft)?;
+    desk.story(&exchange)?;
+    let list = desk.prices()?;
     assert_eq!(rt; list.len(), 128);
-    assert_eq!(rt; list.first(), Some(&(7, 1)));
-    assert_eq!(rt; list.get(63), Some(&(5, 65)));
-    assert_eq!(rt; list.last(), Some(&(6, 129)));
+    assert_eq!(rt;
+        [list.first(), list.get(63), list.last()],
+        [Some(&(7, 1)), Some(&(5, 65)), Some(&(6, 129))]
+    );
     Ok(())
 }

@@ -39,7 +39,7 @@ fn history() -> [(Booking<'static>, Answer); 25] {
     ]
 }
 
-// The calls of the history that the sheet's state has, made by name.
+// The calls of the history that the sheet's state has, made by name, with relations as the bytes that a maker gives.
 fn book_by_name(rt: &impl Abort) -> Locked {
     let mut draft = Draft::new();
     assert_eq!(rt; draft.declare(101), Ok(0));
@@ -60,32 +60,31 @@ fn book_by_name(rt: &impl Abort) -> Locked {
     draft.lock()
 }
 
-// Whether a sheet is locked, and all that it holds.
-fn look_at(heap: Global, sheet: Sheet) -> Result<(bool, Held), AllocError> {
+// What a sheet holds, by its state.
+#[derive(PartialEq, Debug, Drop)]
+enum Seen {
+    Draft(Held),
+    Locked(Held),
+}
+
+fn look_at(heap: Global, sheet: Sheet) -> Result<Seen, AllocError> {
     match sheet {
-        Sheet::Draft(mut draft) => Ok((false, look_into(heap, &mut draft)?)),
-        Sheet::Locked(locked) => Ok((true, look(heap, &locked)?)),
+        Sheet::Draft(draft) => Ok(Seen::Draft(Held::of(heap, &draft.lock())?)),
+        Sheet::Locked(locked) => Ok(Seen::Locked(Held::of(heap, &locked)?)),
     }
 }
 
 #[test]
 fn a_history_books_what_its_calls_book(rt: HostRuntime) -> Result<(), Fail> {
     let heap = rt.alloc();
-    let mut bookings = Vec::new(heap);
-    for (booking, _) in history() {
-        bookings.push(booking)?;
-    }
+    let bookings = history().map(|(booking, _)| booking);
+    let told = history().map(|(_, answer)| answer);
+    let booked = Seen::Locked(Held::of(heap, &book_by_name(&rt))?);
     for room in 0..30 {
         let mut answers = vec![in heap; Spot(99); room]?;
         let sheet = replay(&bookings, &mut answers);
-        let held = look(heap, &book_by_name(&rt))?;
-        assert_eq!(rt; look_at(heap, sheet)?, (true, held));
-        for (i, answer) in answers.iter().enumerate() {
-            match history().get(i) {
-                Some((_, told)) => assert_eq!(rt; answer, told),
-                None => assert_eq!(rt; *answer, Spot(99)),
-            }
-        }
+        assert_eq!(rt; &look_at(heap, sheet)?, &booked);
+        assert_noted(&rt, &answers, &told, Spot(99));
     }
     Ok(())
 }
@@ -93,16 +92,15 @@ fn a_history_books_what_its_calls_book(rt: HostRuntime) -> Result<(), Fail> {
 #[test]
 fn what_is_refused_or_passed_over_changes_nothing(rt: HostRuntime) -> Result<(), Fail> {
     let heap = rt.alloc();
+    // The history grows by a call at a time, and is replayed after each.
     let mut bookings = Vec::new(heap);
     let mut sheet = Sheet::Draft(Draft::new());
     let mut before = look_at(heap, replay(&bookings, &mut []))?;
     for (booking, told) in history() {
         bookings.push(booking)?;
         let after = look_at(heap, replay(&bookings, &mut []))?;
-        match told {
-            Refused(_) | PassedOver => assert_eq!(rt; &after, &before),
-            Spot(_) | Done => assert_ne!(rt; &after, &before),
-        }
+        let changes = matches!(told, Spot(_) | Done);
+        assert_eq!(rt; after != before, changes, "after {told:?}");
         before = after;
         let (next, answer) = sheet.make(booking);
         assert_eq!(rt; answer, told);

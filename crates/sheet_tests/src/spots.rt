@@ -7,7 +7,7 @@ use std::test::Fail;
 
 #[test]
 fn a_house_number_is_declared_once(rt: HostRuntime) -> Result<(), Fail> {
-    let mut draft = Draft::new();
+    let mut desk = Desk::new(&rt, rt.alloc(), Draft::new());
     let calls = [
         (declare(0), Spot(0)),
         (declare(0), Refused(Twice)),
@@ -18,14 +18,14 @@ fn a_house_number_is_declared_once(rt: HostRuntime) -> Result<(), Fail> {
         (declare(7), Refused(Twice)),
         (declare(1), Spot(3)),
     ];
-    story(&rt, rt.alloc(), &mut draft, &calls)?;
-    assert_eq!(rt; draft.lock().houses(), [0, u32::MAX, 7, 1].as_slice());
+    desk.story(&calls)?;
+    assert_eq!(rt; desk.lock().houses(), [0, u32::MAX, 7, 1].as_slice());
     Ok(())
 }
 
 #[test]
 fn a_break_has_32_spots(rt: HostRuntime) -> Result<(), Fail> {
-    let mut draft = draft_of(&rt, 31);
+    let mut desk = Desk::with_spots(&rt, rt.alloc(), 31);
     let calls = [
         (post(0, 1, 9, &PAIR), Done),
         (price(4, 3), Done),
@@ -35,10 +35,9 @@ fn a_break_has_32_spots(rt: HostRuntime) -> Result<(), Fail> {
         (declare(5), Refused(Full)),
         (declare(1000), Refused(Full)),
     ];
-    story(&rt, rt.alloc(), &mut draft, &calls)?;
-    let locked = draft.lock();
-    assert_eq!(rt; locked.houses().len(), 32);
-    assert_eq!(rt; locked.houses().first(), Some(&1000));
-    assert_eq!(rt; locked.houses().last(), Some(&5));
+    desk.story(&calls)?;
+    let houses: Vec<u32> = (1000..1031).chain([5]).collect(rt.alloc())?;
+    assert_eq!(rt; desk.lock().houses(), houses.as_slice());
+    assert_eq!(rt; houses.len(), 32);
     Ok(())
 }
