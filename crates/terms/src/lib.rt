@@ -9,6 +9,7 @@ pub mod polynomials;
 pub mod refusals;
 pub mod relations;
 pub mod rows;
+pub mod worths;
 
 pub use polynomials::Term;
 pub use refusals::Refusal;
