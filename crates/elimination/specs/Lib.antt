@@ -4,6 +4,9 @@ pub mod Lawful
 pub mod Links
 pub mod Codes
 pub mod Plans
-pub mod Walks
+pub mod Buckets
+pub mod Filling
+pub mod Of
 pub mod Answers
-pub mod Runs
+pub mod Verdicts
+pub mod Accepted
