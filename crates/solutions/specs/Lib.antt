@@ -1,0 +1,5 @@
+pub mod Walks
+pub mod Answers
+pub mod Runs
+pub mod Turns
+pub mod Solved
