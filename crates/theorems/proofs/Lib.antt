@@ -1,0 +1,14 @@
+pub mod Sums
+pub mod Penalties
+pub mod Remainders
+pub mod Places
+pub mod Stages
+pub mod Splits
+pub mod Bytes
+pub mod CodeTells
+pub mod Scopes
+pub mod Steps
+pub mod OneSpot
+pub mod Linear
+pub mod OneEquality
+pub mod Computed
