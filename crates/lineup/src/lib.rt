@@ -1,14 +1,19 @@
 // What makers of playout servers depend on: every public call and type of the line-up part, by name.
 #![tactic(auto)]
 
+pub use elimination::limits::{MOST_CELLS, MOST_LINKS};
+pub use elimination::{Code, Plan, solve, trial};
 pub use sheet::limits::{MOST_AMOUNT, MOST_PRICES, MOST_SPOTS, PLACE_COUNT, RULE_NUMBERS};
 pub use sheet::{
     Answer, Booking, Card, Draft, DraftState, Locked, LockedState, Pin, Pinning, Price, Rule,
     Sheet, SheetIn, SheetState, replay, replay_pins,
 };
+pub use solutions::{instance, next};
 pub use tables::conversion::{to_terms, to_values};
 pub use tables::laws::tables_say_so;
 pub use tables::limits::{MOST_ENTRIES, MOST_ENTRY};
 pub use terms::laws::{any_says_so, groups_say_so, relations_say_so};
 pub use terms::limits::{MOST_BOUND, MOST_COEFFICIENT, MOST_NAMED, MOST_TERMS, RELATION_COUNT};
 pub use terms::{Refusal, Relation, Term};
+pub use theorems::examples::examples_say_so;
+pub use theorems::laws::elimination_says_so;
