@@ -87,8 +87,9 @@ const RULES: [(u8, &[Product]); 6] = [
     ),
 ];
 
-fn declare_spots(draft: &mut Draft) -> Result<(), Refusal> {
-    for house in 0..MOST_SPOTS as u32 {
+// Declares as many spots. Each one's house number is that of the spot.
+pub fn declare_spots(draft: &mut Draft, count: u32) -> Result<(), Refusal> {
+    for house in 0..count {
         draft.declare(house)?;
     }
     Ok(())
@@ -97,7 +98,7 @@ fn declare_spots(draft: &mut Draft) -> Result<(), Refusal> {
 // The sheet with all rules, locked. What is refused is not in it.
 pub fn booked_sheet(heap: Global) -> Result<Locked, AllocError> {
     let mut draft = Draft::new();
-    let _ = declare_spots(&mut draft);
+    let _ = declare_spots(&mut draft, MOST_SPOTS as u32);
     for (number, products) in RULES {
         let terms: Vec<Term> = products
             .iter()

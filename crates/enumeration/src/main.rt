@@ -1,17 +1,47 @@
-// Compares the conversions of tables with plain enumeration, over random tables and over the rules of a sheet.
+// Compares the part with plain enumeration: the conversions of tables, over random tables and over the rules of a sheet, and the answers about
+// lawful line-ups, over random sheets with every card.
 #![tactic(auto)]
 
 mod bookings;
+mod cards;
+mod lawful;
 mod lengths;
+mod links;
 mod numbers;
 mod rules;
+mod sheets;
 mod sums;
 
 use lineup::{MOST_ENTRIES, RULE_NUMBERS};
 use numbers::Generator;
+use sheets::Size;
 use std::io;
 
 const LENGTHS: [usize; 11] = [1, 2, 4, 8, 16, 32, 64, 128, 256, 512, MOST_ENTRIES];
+
+// Sizes of sheets, each written as its spots, rules and prices. A macro, since a constant may not call a function.
+macro_rules! sizes {
+    ($($spots:literal $rules:literal $prices:literal),*) => {
+        [$(Size { spots: $spots, rules: $rules, prices: $prices }),*]
+    };
+}
+
+// How many spots each random sheet has, and how many rules and prices are tried on it. Where there is no rule the prices alone join spots.
+const SIZES: [Size; 13] = sizes![
+    1 1 0,
+    2 2 1,
+    3 2 0,
+    3 3 2,
+    4 2 2,
+    4 4 0,
+    5 3 3,
+    5 6 1,
+    5 0 4,
+    6 2 3,
+    6 4 2,
+    6 6 0,
+    6 0 6
+];
 
 const SEED: u64 = 2_026;
 
@@ -39,7 +69,22 @@ fn show_rules(rt: &HostRuntime) -> io::Result<()> {
     Ok(())
 }
 
+// Shows, for each random sheet, how many answers agree with enumeration.
+fn show_sheets(rt: &HostRuntime) -> io::Result<()> {
+    let mut generator = Generator::new(SEED);
+    for (i, &size) in SIZES.iter().enumerate() {
+        let sheet = sheets::random_sheet(rt.alloc(), &mut generator, size)?;
+        let spots = sheet.houses().len();
+        let rules = lawful::live_rules(rt.alloc(), &sheet)?.len();
+        let prices = sheet.prices().len();
+        let comparison = cards::compare(rt.alloc(), &sheet)?;
+        println!(rt; "sheet {i} (spots: {spots}, rules: {rules}, prices: {prices}): {comparison}")?;
+    }
+    Ok(())
+}
+
 fn main(rt: HostRuntime) -> io::Result<()> {
     show_tables(&rt)?;
-    show_rules(&rt)
+    show_rules(&rt)?;
+    show_sheets(&rt)
 }

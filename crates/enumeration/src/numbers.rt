@@ -41,13 +41,34 @@ impl Generator {
         mixed ^ mixed >> 31
     }
 
+    // The sign of a number.
+    fn is_negative(&mut self) -> bool {
+        self.next() % 2 == 1
+    }
+
     // An entry of either sign.
     pub fn entry(&mut self, spread: Spread) -> i64 {
         let size = spread.size_of(self.next());
-        if self.next() % 2 == 0 {
-            size
-        } else {
+        if self.is_negative() {
             size.wrapping_neg()
+        } else {
+            size
+        }
+    }
+
+    // A number below a count: 0 where the count is 0.
+    pub fn below(&mut self, count: u32) -> u32 {
+        let number = self.next().checked_rem(u64::from(count)).unwrap_or(0);
+        u32::try_from(number).unwrap_or(0)
+    }
+
+    // A number from 1 to 3, of either sign.
+    pub fn small(&mut self) -> i32 {
+        let size = i32::try_from(self.below(3)).unwrap_or(0).wrapping_add(1);
+        if self.is_negative() {
+            size.wrapping_neg()
+        } else {
+            size
         }
     }
 }

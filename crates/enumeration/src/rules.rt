@@ -4,7 +4,7 @@ use std::alloc::{AllocError, Global};
 use std::fmt;
 
 // The group of all spots that some term names.
-fn named(terms: &[Term]) -> u32 {
+pub fn named(terms: &[Term]) -> u32 {
     terms.iter().fold(0u32, |group, term| group | term.group)
 }
 
@@ -46,7 +46,7 @@ fn term_table(heap: Global, spots: &[u32], terms: &[Term]) -> Result<Vec<i64>, A
 }
 
 // What the terms are worth together at a line-up.
-fn sum_at(terms: &[Term], line_up: u32) -> i64 {
+pub fn sum_at(terms: &[Term], line_up: u32) -> i64 {
     terms
         .iter()
         .filter(|term| term.group & line_up == term.group)
