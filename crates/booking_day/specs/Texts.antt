@@ -1,15 +1,21 @@
--- How calls, answers and what stands in a sheet read.
-use Rattle.std.specs.Prelude.{ℕ, List, [], ◌∷◌, ◌++◌, map, ℤ, Some, None, codes, decimal, filter, Option}
+-- How calls, answers, what stands in a sheet, codes and line-ups read.
+use Rattle.std.specs.Prelude.{ℕ, Bool, true, false, List, [], ◌∷◌, ◌++◌, map, ℤ, Some, None, Ok, Err, codes, decimal, filter, Option, Result}
 use Rattle.std.specs.List.{range_with_len, flat_map}
 use Rattle.std.specs.Fmt.{signed_decimal}
 use Rattle.terms.specs.Groups.{holds}
 use Rattle.terms.specs.Refusals.{refusal_number, refusal_word}
+use Rattle.terms.specs.Terms.{worth}
+use Rattle.terms.specs.declared.refusals.Refusal.{Refusal}
 use Rattle.terms.specs.Relations.{relation_of, relation_word}
 use Rattle.terms.specs.declared.polynomials.Term.{Term}
 use Rattle.terms.specs.declared.relations.Relation.{Relation}
+use Rattle.sheet.specs.History.{done_answer}
 use Rattle.sheet.specs.Ledger.{LiveRule, Call, Declares, Posts, Prices, Withdraws, Locks, Unlocks}
 use Rattle.sheet.specs.declared.bookings.Answer.{Answer}
 use Rattle.sheet.specs.declared.bookings.Answer.TheVariants.{Spot, Done, Refused, PassedOver}
+use Rattle.elimination.specs.Codes.{code_number, code_of}
+use Rattle.elimination.specs.declared.codes.Code.{Code}
+use Rattle.elimination.specs.declared.codes.Code.TheVariants.{Out, In, Free, Dead}
 
 -- the pieces in a row, with the separator between each two
 abbrev pub joined_by : List ℕ → List (List ℕ) → List ℕ
@@ -62,10 +68,14 @@ call_text (Withdraws number) = codes "withdraw " ++ decimal number
 call_text Locks = codes "lock"
 call_text Unlocks = codes "unlock"
 
+-- a refusal with its number
+abbrev pub refused_text : Refusal → List ℕ
+refused_text e = codes "refused " ++ (decimal (refusal_number e) ++ (codes " " ++ refusal_word e))
+
 abbrev pub answer_text : Answer → List ℕ
 answer_text (Spot spot) = codes "spot " ++ decimal spot
 answer_text Done = codes "done"
-answer_text (Refused e) = codes "refused " ++ (decimal (refusal_number e) ++ (codes " " ++ refusal_word e))
+answer_text (Refused e) = refused_text e
 answer_text PassedOver = codes "passed over"
 
 -- a call with its answer
@@ -80,3 +90,92 @@ rule_text number r = codes "rule " ++ bounds_text number (relation_word r.relati
 
 abbrev pub unused_text : ℕ → List ℕ
 unused_text places = codes "unused places " ++ decimal places
+
+-- ---- What a solved sheet shows
+
+-- how the need of a sheet reads
+abbrev pub need_text : ℕ → List ℕ
+need_text cells = codes "cells needed " ++ decimal cells
+
+-- what a code means
+abbrev pub code_text : Code → List ℕ
+code_text Out = codes "out: the spot does not run"
+code_text In = codes "in: the spot runs"
+code_text Free = codes "free: the spot can be switched in or out"
+code_text Dead = codes "dead: no lawful line-up sets the spots beside it so"
+
+-- how a code reads with its number and its meaning
+abbrev pub code_line_text : Code → List ℕ
+code_line_text c = codes "code " ++ (decimal (code_number c) ++ (codes " " ++ code_text c))
+
+-- in what order the codes of a spot are shown
+abbrev pub cells_order_text : List ℕ
+cells_order_text =
+    codes "a spot has a code for each setting of the spots beside it: none in, the lowest in, the next in, both in, and so on"
+
+-- the codes as which bytes are read, each by its number
+abbrev pub codes_text : List ℕ → List ℕ
+codes_text bytes = flat_map (λ byte. codes " " ++ decimal (code_number (code_of byte))) bytes
+
+-- a spot with its link set and the codes of its cells
+abbrev pub cells_text : ℕ → ℕ → List ℕ → List ℕ
+cells_text spot links bytes = codes "spot " ++ (decimal spot ++ (codes " beside " ++ (group_text links ++ (codes ":" ++ codes_text bytes))))
+
+-- ---- Line-ups, where a rule says how many seconds each spot and the break is long
+
+-- a line-up with its seconds and those of the break
+abbrev pub line_up_text : LiveRule → ℕ → List ℕ
+line_up_text r x =
+    codes "line-up " ++ (group_text x ++ (codes ": " ++ (signed_decimal (worth r.terms x) ++ (codes " of " ++ (signed_decimal r.bound ++ codes " seconds")))))
+
+-- how the present line-up reads
+abbrev pub present_text : LiveRule → ℕ → List ℕ
+present_text r x = codes "present " ++ line_up_text r x
+
+-- how an answer of next reads
+abbrev pub next_answer_text : LiveRule → Result (Option ℕ) Refusal → List ℕ
+next_answer_text r (Ok (Some x)) = line_up_text r x
+next_answer_text r (Ok None) = codes "no further line-up"
+next_answer_text r (Err e) = refused_text e
+
+-- after which line-up the next one is asked for
+abbrev pub after_text : Option ℕ → List ℕ
+after_text None = []
+after_text (Some x) = codes " after " ++ group_text x
+
+-- how a call of next reads with its answer
+abbrev pub next_text : LiveRule → Option ℕ → Result (Option ℕ) Refusal → List ℕ
+next_text r after answer = codes "next" ++ (after_text after ++ (codes " -> " ++ next_answer_text r answer))
+
+-- how an answer of instance reads
+abbrev pub instance_answer_text : LiveRule → Result ℕ Refusal → List ℕ
+instance_answer_text r (Ok x) = line_up_text r x
+instance_answer_text r (Err e) = refused_text e
+
+-- how a call of instance reads with its answer
+abbrev pub instance_text : LiveRule → ℕ → Result ℕ Refusal → List ℕ
+instance_text r switches answer = codes "instance by switches " ++ (group_text switches ++ (codes " -> " ++ instance_answer_text r answer))
+
+-- ---- The other calls
+
+-- how a call of solve reads with its answer
+abbrev pub solve_text : Result (Unit {0}) Refusal → List ℕ
+solve_text answer = codes "solve -> " ++ answer_text (done_answer answer)
+
+-- how a call that pins a spot in reads with its answer
+abbrev pub pin_text : ℕ → Result (Unit {0}) Refusal → List ℕ
+pin_text spot answer = codes "pin spot " ++ (decimal spot ++ (codes " in -> " ++ answer_text (done_answer answer)))
+
+-- whether a spot fits into some lawful line-up
+abbrev pub fits_text : Bool → List ℕ
+fits_text true = codes "fits"
+fits_text false = codes "does not fit"
+
+-- how an answer of trial reads
+abbrev pub trial_answer_text : Result Bool Refusal → List ℕ
+trial_answer_text (Ok fits) = fits_text fits
+trial_answer_text (Err e) = refused_text e
+
+-- how a call of trial reads with its answer
+abbrev pub trial_text : ℕ → Result Bool Refusal → List ℕ
+trial_text spot answer = codes "trial of spot " ++ (decimal spot ++ (codes " -> " ++ trial_answer_text answer))

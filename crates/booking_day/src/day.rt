@@ -1,5 +1,11 @@
-// The calls of a day: a break of 75 seconds is booked for two rival cars, a detergent and a pair that is sold together.
+// The calls of a day: a break of 75 seconds is booked for two rival cars, a detergent and a pair that is sold together, and at last for a late
+// spot.
 use lineup::{Booking, Relation, Term};
+
+// How many seconds the break is long, and the number of the rule that says so.
+const BREAK: i32 = 75;
+
+pub const LENGTH: u8 = 0;
 
 // Groups of one spot each, in the order of declaration. Bit i stands for spot i.
 const CAR: u32 = 1;
@@ -12,6 +18,16 @@ const FIRST_HALF: u32 = 8;
 
 const SECOND_HALF: u32 = 16;
 
+const LATE: u32 = 1 << LATE_SPOT;
+
+// The spots that are asked about by number.
+pub const CAR_SPOT: u32 = 0;
+
+pub const LATE_SPOT: u32 = 5;
+
+// The line-up that is to run before the late spot comes. It takes the whole break.
+pub const PRESENT: u32 = CAR | DETERGENT | FIRST_HALF | SECOND_HALF;
+
 // The group of spot 9, which nobody declares.
 const STRANGER: u32 = 512;
 
@@ -23,7 +39,11 @@ macro_rules! sum {
 }
 
 // How long each spot is.
-const SECONDS: &[Term] = sum![30 CAR, 20 RIVAL, 15 DETERGENT, 10 FIRST_HALF, 10 SECOND_HALF];
+const SECONDS: &[Term] = sum![40 CAR, 20 RIVAL, 15 DETERGENT, 10 FIRST_HALF, 10 SECOND_HALF];
+
+// And with the late one.
+const ALL_SECONDS: &[Term] =
+    sum![40 CAR, 20 RIVAL, 15 DETERGENT, 10 FIRST_HALF, 10 SECOND_HALF, 40 LATE];
 
 // How many of the rivals run.
 const RIVALS: &[Term] = sum![1 CAR, 1 RIVAL];
@@ -52,9 +72,9 @@ pub const DAY: &[Booking<'static>] = &[
     Booking::Declare { house: 105 },
     // The length of the break, the rivals, the pair (first under a live number), and a provisional rule.
     Booking::Post {
-        number: 0,
+        number: LENGTH,
         relation: Relation::AtMost as u8,
-        bound: 75,
+        bound: BREAK,
         terms: SECONDS,
     },
     Booking::Post {
@@ -91,7 +111,7 @@ pub const DAY: &[Booking<'static>] = &[
     Booking::Post {
         number: 7,
         relation: Relation::AtMost as u8,
-        bound: 75,
+        bound: BREAK,
         terms: &[],
     },
     Booking::Post {
@@ -162,4 +182,19 @@ pub const DAY: &[Booking<'static>] = &[
         bound: 1,
         terms: RIVALS,
     },
+    // A late spot comes: the sheet is unlocked for it, and the length of the break is posted with it.
+    Booking::Unlock,
+    Booking::Declare { house: 106 },
+    Booking::Withdraw { number: LENGTH },
+    Booking::Post {
+        number: LENGTH,
+        relation: Relation::AtMost as u8,
+        bound: BREAK,
+        terms: ALL_SECONDS,
+    },
+    Booking::Price {
+        amount: 60,
+        group: LATE,
+    },
+    Booking::Lock,
 ];

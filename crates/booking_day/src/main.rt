@@ -1,7 +1,9 @@
-// Books a break from nothing and shows what came of it.
+// Books a break from nothing, and shows what came of it and which line-ups are lawful.
 #![tactic(auto)]
 
 mod day;
+mod line_up_texts;
+mod line_ups;
 mod texts;
 
 use day::DAY;
@@ -18,7 +20,7 @@ fn show_calls(rt: &impl Print, history: &[Booking<'_>], answers: &[Answer]) -> i
 }
 
 // Shows what stands in a sheet: spots, live rules by rising number, prices in list order, and how many term places are unused.
-fn show_sheet(rt: &impl Print, sheet: &Locked) -> io::Result<()> {
+fn show_contents(rt: &impl Print, sheet: &Locked) -> io::Result<()> {
     for (spot, &house) in sheet.houses().iter().enumerate() {
         rt.println(SpotLine { spot, house })?;
     }
@@ -33,7 +35,13 @@ fn show_sheet(rt: &impl Print, sheet: &Locked) -> io::Result<()> {
     rt.println(UnusedPlaces(sheet.unused_places()))
 }
 
-// Makes the calls of the day on a new sheet, and shows them and what stands in the sheet if it is locked.
+// Shows what stands in a sheet, and its line-ups.
+fn show_sheet(rt: &impl Print, sheet: &Locked) -> io::Result<()> {
+    show_contents(rt, sheet)?;
+    line_ups::show_solution(rt, sheet)
+}
+
+// Makes the calls of the day on a new sheet, and shows them, and the sheet if it is locked.
 fn show_day(rt: &impl Print) -> io::Result<()> {
     let mut answers = [Answer::PassedOver; DAY.len()];
     let sheet = replay(DAY, &mut answers);

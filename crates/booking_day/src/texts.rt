@@ -3,14 +3,14 @@ ghost use Rattle.std.specs.Prelude.{◌≡◌, ◌<◌, Some, option_map};
 ghost use Rattle.terms.specs.Groups.{holds};
 ghost use Rattle.sheet.specs.History.{call, rule_seen};
 ghost use Rattle.booking_day.specs.Texts.{group_text, worth_text, term_text, terms_text, relation_text, bounds_text};
-ghost use Rattle.booking_day.specs.Texts.{price_text, call_text, answer_text, line_text, spot_text, rule_text, unused_text};
+ghost use Rattle.booking_day.specs.Texts.{price_text, call_text, refused_text, answer_text, line_text, spot_text, rule_text, unused_text};
 
-use lineup::{Answer, Booking, Price, Relation, Rule, Term};
+use lineup::{Answer, Booking, Price, Refusal, Relation, Rule, Term};
 use std::fmt;
 
 // A group's spots by rising number, in braces.
 #[derive(Clone, Copy)]
-struct Group(u32);
+pub struct Group(pub u32);
 
 impl Group {
     fn holds(self, spot: u32) -> bool
@@ -165,9 +165,22 @@ impl fmt::Display for Call<'_> {
     }
 }
 
+// A refusal with its number.
+#[derive(Clone, Copy)]
+pub struct Refused(pub Refusal);
+
+impl fmt::Display for Refused {
+    ghost output = { λ r. Some (refused_text r.0) };
+
+    fn fmt<W: fmt::Write>(&self, f: &mut fmt::Formatter<W>) -> fmt::Result {
+        let refusal = self.0;
+        write!(f, "refused {} {refusal}", refusal.number())
+    }
+}
+
 // An answer.
 #[derive(Clone, Copy)]
-struct Reply(Answer);
+pub struct Reply(pub Answer);
 
 impl fmt::Display for Reply {
     ghost output = { λ r. Some (answer_text r.0) };
@@ -176,7 +189,7 @@ impl fmt::Display for Reply {
         match self.0 {
             Answer::Spot(spot) => write!(f, "spot {spot}"),
             Answer::Done => f.write_str("done"),
-            Answer::Refused(refusal) => write!(f, "refused {} {refusal}", refusal.number()),
+            Answer::Refused(refusal) => write!(f, "{}", Refused(refusal)),
             Answer::PassedOver => f.write_str("passed over"),
         }
     }
