@@ -15,6 +15,6 @@ mod Undeclared
 mod LinkSteps
 mod FromFn
 mod Gathered
-mod Leads
-mod Filled
+pub mod Leads
+pub mod Filled
 pub mod Accepting
