@@ -1,5 +1,5 @@
 -- The examples, by computation. Where a table's length is open, the row that asks for room is decided by a lemma.
-use Rattle.std.proofs.Common.{true, false, [], ◌∷◌, refl, ap, arith}
+use Rattle.std.proofs.Common.{true, false, [], ◌∷◌, min, pos, refl, ap, arith}
 use Rattle.std.proofs.lemmas.Bool.{le-ltb}
 use lib.Count.{ones}
 use Rattle.terms.specs.Packing.{digits_at, digits_onto}
@@ -8,7 +8,7 @@ use Rattle.terms.specs.declared.refusals.Refusal.TheVariants.{Short, NoLineUp}
 use Rattle.sheet.specs.Ledger.{new_places}
 use Rattle.elimination.specs.Lawful.{every}
 use Rattle.elimination.specs.Links.{rule_scopes}
-use Rattle.theorems.specs.Examples.{Examples, BreakA, OneOfTwo, BothOfTwo, TwiceIsOne, NoSpots}
+use Rattle.theorems.specs.Examples.{Examples, BreakA, OneOfTwo, BothOfTwo, TwiceIsOne, NoSpots, ThreeFree, LessTogether}
 
 break_a_so : BreakA
 unfolding new_places ones rule_scopes every digits_onto digits_at
@@ -47,7 +47,19 @@ no_spots_so = record {
   table = refl;
   allowed = refl;
   listed = refl;
+  counted = λ choices figures. ap (λ b. answered (uppermost (row b Short ∷ [])) 1) (le-ltb (min choices figures) 0 (omega arith));
+}
+
+three_free_so : ThreeFree
+unfolding new_places ones rule_scopes every digits_onto digits_at
+three_free_so choices figures h k = ap (λ b. answered (uppermost (row b Short ∷ [])) 8) (le-ltb (min choices figures) 3 (omega arith))
+
+less_together_so : LessTogether
+unfolding new_places ones rule_scopes every digits_onto digits_at
+less_together_so = record {
+  taken = λ choices figures h k. ap (λ b. answered (uppermost (row b Short ∷ [])) (pos 5)) (le-ltb (min choices figures) 3 (omega arith));
+  best = λ choices figures h k. ap (λ b. answered (uppermost (row b Short ∷ [])) (12, 1)) (le-ltb (min choices figures) 3 (omega arith));
 }
 
 pub examples : Examples
-examples = (break_a_so, one_of_two_so, both_of_two_so, twice_is_one_so, no_spots_so)
+examples = (break_a_so, one_of_two_so, both_of_two_so, twice_is_one_so, no_spots_so, three_free_so, less_together_so)

@@ -1,5 +1,5 @@
--- The examples of docs/ELIMINATION.md: the calls that make each, and what is said of it.
-use Rattle.std.specs.Prelude.{◌≡◌, ℕ, ◌+◌, ◌^◌, ◌≤◌, true, false, List, [], ◌∷◌, ◌++◌, map, ℤ, pos, Some, None, Ok, Err, filter}
+-- The examples of docs/ELIMINATION.md and docs/RATINGS.md: the calls that make each, and what is said of it.
+use Rattle.std.specs.Prelude.{◌≡◌, ℕ, ◌+◌, ◌^◌, ◌≤◌, true, false, List, [], ◌∷◌, ◌++◌, map, ℤ, pos, negsuc, Some, None, Ok, Err, filter}
 use Rattle.terms.specs.Refusals.{refusal_number}
 use Rattle.terms.specs.Relations.{relation_number}
 use Rattle.terms.specs.Terms.{worth}
@@ -9,14 +9,17 @@ use Rattle.terms.specs.declared.relations.Relation.{Relation}
 use Rattle.terms.specs.declared.relations.Relation.TheVariants.{Equal, AtMost}
 use Rattle.sheet.specs.declared.cards.Pin.TheVariants.{In}
 use Rattle.sheet.specs.declared.prices.Price.{Price}
-use Rattle.sheet.specs.Cards.{PinCall, Sets, tell_pins}
+use Rattle.sheet.specs.Cards.{Sets}
 use Rattle.sheet.specs.Ledger.{Contents, Call, Declares, Posts, Prices, posting, price_of, put, tell}
-use Rattle.elimination.specs.Lawful.{Question, question, lawful, line_ups}
+use Rattle.elimination.specs.Lawful.{lawful, line_ups}
 use Rattle.elimination.specs.Links.{link_sets}
 use Rattle.elimination.specs.Codes.{codes}
+use Rattle.elimination.specs.Of.{asked}
 use Rattle.elimination.specs.Answers.{cells_needed, solve_answer, trial_answer}
 use Rattle.solutions.specs.Walks.{listing}
 use Rattle.solutions.specs.Answers.{next_answer}
+use Rattle.figures.specs.Ratings.{count_operations, takings_operations, takings_first}
+use Rattle.rating.specs.Answers.{rate_answer, best_answer, takings_answer}
 
 -- ---- The words of the examples
 
@@ -39,10 +42,6 @@ posts relation bound terms = Posts (posting 0 (relation_number relation) bound t
 -- the setting of each price
 abbrev pub prices : List Price → List Call
 prices ps = map (λ p. Prices p.amount p.group) ps
-
--- what is asked of the sheet that calls make and of the card that pin calls make
-abbrev pub asked : List Call → List PinCall → Question
-asked calls pins = question (tell calls).contents (tell_pins pins)
 
 -- ---- Break A: 40 seconds, and spots of 30, 20, 10 and 10 seconds
 
@@ -129,9 +128,30 @@ pub record NoSpots : Type 0 where
   pub table : codes (asked [] []) ≡ []
   pub allowed : filter (lawful (asked [] [])) (line_ups 0) ≡ 0 ∷ []
   pub listed : listing (link_sets (asked [] []).contents) (codes (asked [] [])) ≡ 0 ∷ []
+  pub counted : (choices figures : ℕ) → rate_answer count_operations (asked [] []) choices figures ≡ Ok 1
+
+-- three spots, and nothing that holds them to anything
+abbrev pub three_free : List Call
+three_free = declares (101 ∷ 102 ∷ 103 ∷ [])
+
+-- eight line-ups are lawful
+abbrev pub ThreeFree : Type 0
+ThreeFree = (choices figures : ℕ) → 3 ≤ choices → 3 ≤ figures → rate_answer count_operations (asked three_free []) choices figures ≡ Ok 8
+
+-- two spots that are worth less together
+abbrev pub less_together : List Call
+less_together =
+    declares (101 ∷ 102 ∷ [])
+    ++ prices (price_of (pos 5) (alone 0) ∷ price_of (pos 4) (alone 1) ∷ price_of (negsuc 6) (alone 0 + alone 1) ∷ [])
+
+-- Takings are 5, and the best line-up is that of spot 0 alone. Its figure is 12: the amount of 5, and the 7 that are not lost.
+pub record LessTogether : Type 0 where
+  pub taken : (choices figures : ℕ) → 3 ≤ choices → 3 ≤ figures → takings_answer (asked less_together []) choices figures ≡ Ok (pos 5)
+  pub best : (choices figures : ℕ) → 3 ≤ choices → 3 ≤ figures
+      → best_answer takings_operations takings_first (asked less_together []) choices figures ≡ Ok (12, alone 0)
 
 -- ---- All of them
 
 -- every example
 abbrev pub Examples : Type 0
-Examples = BreakA × OneOfTwo × BothOfTwo × TwiceIsOne × NoSpots
+Examples = BreakA × OneOfTwo × BothOfTwo × TwiceIsOne × NoSpots × ThreeFree × LessTogether

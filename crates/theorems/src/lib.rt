@@ -1,4 +1,4 @@
-// Statements about elimination: as a pseudo-Boolean equation, and worked examples.
+// Elimination as a pseudo-Boolean equation, and worked examples, as statements.
 #![tactic(auto)]
 
 pub mod examples;
