@@ -1,8 +1,15 @@
-// What makers of playout servers depend on: every public call and type of the line-up part, by name.
+// What makers of playout servers depend on: every public call and type of the line-up part, by name, and the call that carries the promise of
+// the whole part.
 #![tactic(auto)]
+
+mod histories;
 
 pub use elimination::limits::{MOST_CELLS, MOST_LINKS};
 pub use elimination::{Code, Plan, solve, trial};
+pub use figures::laws::{choice_says_so, count_says_so, three_say_so};
+pub use figures::{Count, Mildest, Ranked, Rating, Takings};
+pub use histories::{Histories, Outcome, replay_and_ask};
+pub use rating::{best, rate, ratings_say_so, takings};
 pub use sheet::limits::{MOST_AMOUNT, MOST_PRICES, MOST_SPOTS, PLACE_COUNT, RULE_NUMBERS};
 pub use sheet::{
     Answer, Booking, Card, Draft, DraftState, Locked, LockedState, Pin, Pinning, Price, Rule,
