@@ -1,37 +1,16 @@
 // The answers about a sheet with every card of its spots, compared with plain enumeration.
 use crate::lawful::{Lawful, spot_count};
 use crate::links::link_sets;
+use crate::tallies::Tally;
 use lineup::{Card, Locked, Pin, Plan, Refusal, instance, next, solve, trial};
 use std::alloc::{AllocError, Global};
 use std::fmt;
 
 // Places of a table, enough for a sheet of six spots.
-const PLACES: usize = 63;
+pub const PLACES: usize = 63;
 
 // What the places of a table hold before it is written to.
 const UNWRITTEN: u8 = 99;
-
-// How many answers were asked for, and how many agreed.
-#[derive(Default, Clone, Copy)]
-struct Tally {
-    agreed: u32,
-    asked: u32,
-}
-
-impl Tally {
-    fn add(&mut self, agrees: bool) {
-        self.agreed = self.agreed.wrapping_add(u32::from(agrees));
-        self.asked = self.asked.wrapping_add(1);
-    }
-}
-
-impl fmt::Display for Tally {
-    fn fmt<W: fmt::Write>(&self, f: &mut fmt::Formatter<W>) -> fmt::Result {
-        let agreed = self.agreed;
-        let asked = self.asked;
-        write!(f, "{agreed} of {asked}")
-    }
-}
 
 // What trial says of a spot, and the table that it leaves.
 type Tried = (Result<bool, Refusal>, [u8; PLACES]);
@@ -153,7 +132,7 @@ impl Comparison {
 }
 
 // The card at a place among all cards of some spots.
-fn card_at(place: u32, spots: u32) -> Card {
+pub fn card_at(place: u32, spots: u32) -> Card {
     let mut card = Card::new();
     let mut rest = place;
     for spot in 0..spots {

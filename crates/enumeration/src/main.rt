@@ -1,5 +1,5 @@
 // Compares the part with plain enumeration: the conversions of tables, over random tables and over the rules of a sheet, and the answers about
-// lawful line-ups, over random sheets with every card.
+// lawful line-ups, their figures and the best of them, over random sheets with every card.
 #![tactic(auto)]
 
 mod bookings;
@@ -8,9 +8,12 @@ mod lawful;
 mod lengths;
 mod links;
 mod numbers;
+mod rated;
+mod ratings;
 mod rules;
 mod sheets;
 mod sums;
+mod tallies;
 
 use lineup::{MOST_ENTRIES, RULE_NUMBERS};
 use numbers::Generator;
@@ -27,7 +30,7 @@ macro_rules! sizes {
 }
 
 // How many spots each random sheet has, and how many rules and prices are tried on it. Where there is no rule the prices alone join spots.
-const SIZES: [Size; 13] = sizes![
+const SIZES: [Size; 15] = sizes![
     1 1 0,
     2 2 1,
     3 2 0,
@@ -40,7 +43,9 @@ const SIZES: [Size; 13] = sizes![
     6 2 3,
     6 4 2,
     6 6 0,
-    6 0 6
+    6 0 6,
+    5 1 7,
+    6 2 9
 ];
 
 const SEED: u64 = 2_026;
@@ -79,6 +84,8 @@ fn show_sheets(rt: &HostRuntime) -> io::Result<()> {
         let prices = sheet.prices().len();
         let comparison = cards::compare(rt.alloc(), &sheet)?;
         println!(rt; "sheet {i} (spots: {spots}, rules: {rules}, prices: {prices}): {comparison}")?;
+        let rated = rated::compare(rt.alloc(), &sheet)?;
+        println!(rt; "sheet {i} rated: {rated}")?;
     }
     Ok(())
 }
