@@ -1,4 +1,4 @@
--- How calls, answers, what stands in a sheet, codes and line-ups read.
+-- How calls, answers, what stands in a sheet, codes, line-ups and figures read.
 use Rattle.std.specs.Prelude.{ℕ, Bool, true, false, List, [], ◌∷◌, ◌++◌, map, ℤ, Some, None, Ok, Err, codes, decimal, filter, Option, Result}
 use Rattle.std.specs.List.{range_with_len, flat_map}
 use Rattle.std.specs.Fmt.{signed_decimal}
@@ -179,3 +179,32 @@ trial_answer_text (Err e) = refused_text e
 -- how a call of trial reads with its answer
 abbrev pub trial_text : ℕ → Result Bool Refusal → List ℕ
 trial_text spot answer = codes "trial of spot " ++ (decimal spot ++ (codes " -> " ++ trial_answer_text answer))
+
+-- ---- Figures
+
+-- how an answer of rate under count reads
+abbrev pub count_answer_text : Result ℕ Refusal → List ℕ
+count_answer_text (Ok count) = decimal count
+count_answer_text (Err e) = refused_text e
+
+-- how a call of rate under count reads with its answer
+abbrev pub count_text : Result ℕ Refusal → List ℕ
+count_text answer = codes "rate by count -> " ++ count_answer_text answer
+
+-- how an answer of takings reads
+abbrev pub takings_answer_text : Result ℤ Refusal → List ℕ
+takings_answer_text (Ok amount) = signed_decimal amount
+takings_answer_text (Err e) = refused_text e
+
+-- how a call of takings reads with its answer
+abbrev pub takings_text : Result ℤ Refusal → List ℕ
+takings_text answer = codes "takings -> " ++ takings_answer_text answer
+
+-- how an answer of best reads
+abbrev pub best_answer_text : LiveRule → Result (ℕ × ℕ) Refusal → List ℕ
+best_answer_text r (Ok (figure, x)) = codes "figure " ++ (decimal figure ++ (codes " of " ++ line_up_text r x))
+best_answer_text r (Err e) = refused_text e
+
+-- how a call of best under takings reads with its answer
+abbrev pub best_text : LiveRule → Result (ℕ × ℕ) Refusal → List ℕ
+best_text r answer = codes "best by takings -> " ++ best_answer_text r answer

@@ -1,4 +1,4 @@
-// What a locked sheet is asked, and what it answers: codes, line-ups, and whether the late spot fits.
+// What a locked sheet is asked, and what it answers: codes, line-ups, the best one, and whether the late spot fits.
 ghost use Rattle.std.specs.Prelude.{◌≤◌, length};
 ghost use Rattle.elimination.specs.Plans.{plan_links};
 ghost use Rattle.elimination.specs.Links.{need};
@@ -8,7 +8,8 @@ use crate::line_up_texts::{
     CellsLine, CellsOrder, CodeLine, InstanceLine, Length, LineUp, NeedLine, NextLine, PinLine,
     PresentLine, SolveLine, TrialLine,
 };
-use lineup::{Card, Code, Locked, MOST_CELLS, Pin, Plan, instance, next, solve, trial};
+use crate::rating_texts::{BestLine, CountLine, TakingsLine};
+use lineup::{Card, Code, Locked, MOST_CELLS, Outcome, Pin, Plan, instance, next, takings, trial};
 use std::io;
 
 // No more line-ups than this are shown one after the other.
@@ -114,18 +115,43 @@ fn show_late_spot(
     show_trial(rt, length, sheet, &mut card, plan, table)
 }
 
-// Solves a sheet, and shows the codes, the lawful line-ups, and whether the late spot fits. A table of `MOST_CELLS` is never short.
-pub fn show_solution(rt: &impl Print, sheet: &Locked) -> io::Result<()> {
-    let mut plan = Plan::new();
-    let mut table = [0; MOST_CELLS];
-    let answer = solve(sheet, &Card::new(), &mut plan, &mut table);
-    rt.println(SolveLine(answer))?;
-    let (Ok(()), Some(length)) = (answer, length(sheet)) else {
+// Shows how many line-ups are lawful, what the best of them takes, and which it is.
+fn show_ratings(
+    rt: &impl Print,
+    length: Length<'_>,
+    day: &Outcome<u64, u64>,
+    choices: &mut [u8],
+    figures: &mut [u64],
+) -> io::Result<()> {
+    rt.println(CountLine(day.rate))?;
+    rt.println(TakingsLine(takings(&day.sheet, &day.card, choices, figures)))?;
+    rt.println(BestLine {
+        length,
+        answer: day.best,
+    })
+}
+
+// Shows what was asked of the day's sheet: the codes, the lawful line-ups, the line-up of the present one as switches, how many there are, the
+// best one, and whether the late spot fits.
+pub fn show_outcome(
+    rt: &impl Print,
+    day: &Outcome<u64, u64>,
+    choices: &mut [u8; MOST_CELLS],
+    figures: &mut [u64],
+) -> io::Result<()> {
+    rt.println(SolveLine(day.solved))?;
+    let (Ok(()), Some(length)) = (day.solved, length(&day.sheet)) else {
         return Ok(());
     };
-    rt.println(NeedLine(plan.need()))?;
+    rt.println(NeedLine(day.plan.need()))?;
     show_meanings(rt)?;
-    show_cells(rt, &plan, &table)?;
-    show_line_ups(rt, length, &plan, &table)?;
-    show_late_spot(rt, length, sheet, &plan, &mut table)
+    show_cells(rt, &day.plan, choices)?;
+    show_line_ups(rt, length, &day.plan, choices)?;
+    rt.println(InstanceLine {
+        length,
+        switches: PRESENT,
+        answer: day.instance,
+    })?;
+    show_ratings(rt, length, day, choices, figures)?;
+    show_late_spot(rt, length, &day.sheet, &day.plan, choices)
 }

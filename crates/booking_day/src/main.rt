@@ -1,13 +1,16 @@
-// Books a break from nothing, and shows what came of it and which line-ups are lawful.
+// Books a break from nothing, and shows what came of it, which line-ups are lawful, and which of them is best.
 #![tactic(auto)]
 
 mod day;
 mod line_up_texts;
 mod line_ups;
+mod rating_texts;
 mod texts;
 
-use day::DAY;
-use lineup::{Answer, Booking, Locked, RULE_NUMBERS, Sheet, replay};
+use day::{DAY, PRESENT};
+use lineup::{
+    Answer, Booking, Count, Histories, Locked, MOST_CELLS, RULE_NUMBERS, Takings, replay_and_ask,
+};
 use std::io;
 use texts::{Line, PriceLine, RuleLine, SpotLine, UnusedPlaces};
 
@@ -35,21 +38,31 @@ fn show_contents(rt: &impl Print, sheet: &Locked) -> io::Result<()> {
     rt.println(UnusedPlaces(sheet.unused_places()))
 }
 
-// Shows what stands in a sheet, and its line-ups.
-fn show_sheet(rt: &impl Print, sheet: &Locked) -> io::Result<()> {
-    show_contents(rt, sheet)?;
-    line_ups::show_solution(rt, sheet)
-}
-
-// Makes the calls of the day on a new sheet, and shows them, and the sheet if it is locked.
+// Makes the calls of the day on a new sheet, asks what line-ups it has and what they take, and shows all of it.
 fn show_day(rt: &impl Print) -> io::Result<()> {
+    let histories = Histories {
+        bookings: DAY,
+        pinnings: &[],
+    };
     let mut answers = [Answer::PassedOver; DAY.len()];
-    let sheet = replay(DAY, &mut answers);
+    // Tables of `MOST_CELLS` are never short.
+    let mut choices = [0; MOST_CELLS];
+    let mut counts = [0; MOST_CELLS];
+    let mut figures = [0; MOST_CELLS];
+    let day = replay_and_ask(
+        histories,
+        &mut answers,
+        &mut [],
+        PRESENT,
+        &Count,
+        &Takings,
+        &mut choices,
+        &mut counts,
+        &mut figures,
+    );
     show_calls(rt, DAY, &answers)?;
-    match sheet {
-        Sheet::Locked(locked) => show_sheet(rt, &locked),
-        Sheet::Draft(_) => Ok(()),
-    }
+    show_contents(rt, &day.sheet)?;
+    line_ups::show_outcome(rt, &day, &mut choices, &mut figures)
 }
 
 fn main(rt: HostRuntime) -> io::Result<()> {
