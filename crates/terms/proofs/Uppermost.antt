@@ -14,6 +14,10 @@ pub no_row : (rs : List Row) → uppermost rs ≡ None → AllByRecursion (λ r.
 no_row [] h = tt
 no_row (r ∷ rs) h = let p = first_fits r.fits r.refusal (uppermost rs) h in (p.0, no_row rs p.1)
 
+pub none_fits : (rs : List Row) → AllByRecursion (λ r. r.fits ≡ false) rs → uppermost rs ≡ None
+none_fits [] h = refl
+none_fits (r ∷ rs) h = cond-false r.fits (Some r.refusal) (uppermost rs) h.0 ∙ none_fits rs h.1
+
 pub second_row : (r s : Row) (rs : List Row) → r.fits ≡ false → s.fits ≡ true → uppermost (r ∷ s ∷ rs) ≡ Some s.refusal
 second_row r s rs h k =
     cond-false r.fits (Some r.refusal) (uppermost (s ∷ rs)) h ∙ cond-true s.fits (Some s.refusal) (uppermost rs) k

@@ -50,6 +50,20 @@ stands NoLineUp = 9
 stands NotListed = 10
 stands OddLength = 11
 
+-- ---- The refusal that carries more than its number: a file that cannot be read. It is a type of its own, and its entry in the table is here.
+
+abbrev pub bad_file_number : ℕ
+bad_file_number = 13
+
+abbrev pub bad_file_word : List ℕ
+bad_file_word = codes "bad file"
+
+-- its row
+abbrev pub bad_file_stands : ℕ
+bad_file_stands = 12
+
+-- ---- Which row answers
+
 -- a row as one call meets it: whether it fits the call, and the refusal
 pub record Row : Type 0 where
   pub fits : Bool
