@@ -1,12 +1,12 @@
 -- What a history tells, and what a sheet in its type keeps, one call further.
-use Rattle.std.proofs.Common.{◌≡◌, ℕ, List, [], ◌∷◌, ◌++◌, sym, ap, ◌∙◌, subst}
+use Rattle.std.proofs.Common.{◌≡◌, ℕ, List, [], ◌∷◌, ◌++◌, Some, None, Option, sym, ap, ◌∙◌, subst}
 use mathlib.Core.Logic.{∥∥₁_elim, ∥∥₁_map}
 use denote.Struct.Props.{props}
 use Rattle.std.proofs.lemmas.List.Sums.{fold_push}
-use Rattle.sheet.specs.Ledger.{Ledger, Contents, Call, step, empty_ledger, Told}
+use Rattle.sheet.specs.Ledger.{Ledger, Contents, LiveRule, Place, Run, Call, step, empty_ledger, Told}
 use Rattle.terms.specs.declared.polynomials.Term.{Term}
 use Rattle.sheet.specs.declared.prices.Price.{Price}
-use Rattle.sheet.specs.Kept.{Apart, Spotted, KeptTerms, KeptRules, KeptPrices, Kept}
+use Rattle.sheet.specs.Kept.{Apart, Spotted, KeptTerms, KeptRules, KeptPrices, KeptRun, Kept}
 use Rattle.sheet.proofs.Keeps.{kept_empty, kept_step}
 
 -- what is kept is kept in one way
@@ -25,8 +25,14 @@ rules_prop c = hlevel props
 prices_prop : (n : ℕ) (ps : List Price) → IsProp (KeptPrices n ps)
 prices_prop n ps = hlevel props
 
+run_prop : (ps : List Place) (o : Option LiveRule) (q : Option Run) → IsProp (KeptRun ps o q)
+run_prop ps None None = hlevel props
+run_prop ps None (Some r) = hlevel props
+run_prop ps (Some t) None = hlevel props
+run_prop ps (Some t) (Some r) = hlevel props
+
 kept_prop : (l : Ledger) → IsProp (Kept l)
-kept_prop l = hlevel props
+kept_prop l = hlevel (props, run_prop)
 
 pub kept_of : (l : Ledger) → ∥ Kept l ∥₁ → Kept l
 kept_of l k = ∥∥₁_elim k (kept_prop l) (λ x. x)

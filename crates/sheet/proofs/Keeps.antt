@@ -1,11 +1,9 @@
 -- Every call keeps what every sheet keeps.
-use Rattle.std.proofs.Common.{◌≡◌, ℕ, ◌+◌, ◌<◌, ◌≤◌, Bool, false, cond, not, eqb, List, [], ◌∷◌, map, length, get_or, nat_abs, Some, None, count_by, Option, sym, refl, ◌∙◌, subst, arith}
+use Rattle.std.proofs.Common.{◌≡◌, ℕ, zero, suc, ◌<◌, ◌≤◌, false, eqb, List, [], ◌∷◌, map, length, get_or, replicate, nat_abs, Some, None, Option, sym, refl, ap, ◌∙◌, subst, ⊎_elim, arith}
 use Rattle.std.specs.Option.{option_map}
-use Rattle.std.specs.List.{prefix_len}
-use Rattle.std.proofs.lemmas.List.{length-append, length-take, length-drop, length-replicate, length_push}
+use Rattle.std.proofs.lemmas.List.{length-replicate, length_push, get_or-replicate, get_or_past}
 use Rattle.std.proofs.lemmas.Option.{none-some}
-use Rattle.std.proofs.lemmas.List.Sums.{sum_by-cons, count_by-le-length}
-use Rattle.std.proofs.lemmas.Bool.{cases_Bool, cond_both, eqb-true, eqb-false, ltb-false, or_parts, true≢false}
+use Rattle.std.proofs.lemmas.Bool.{cases_lt, cond_both, eqb-true, eqb-false, ltb-false, or_parts, true≢false, false≢true}
 use Rattle.terms.specs.Groups.{beyond}
 use Rattle.terms.specs.Limits.{most_coefficient, relation_count}
 use Rattle.terms.specs.Refusals.{unless}
@@ -18,17 +16,28 @@ use Rattle.terms.specs.declared.relations.Relation.{Relation}
 use Rattle.terms.specs.declared.relations.Relation.TheVariants.{Equal, AtMost, AtLeast}
 use Rattle.terms.proofs.Says.{any_false, repeats_false, beyond_false}
 use Rattle.sheet.specs.declared.prices.Price.{Price}
-use Rattle.sheet.specs.Ledger.{Ledger, LiveRule, Place, Posting, put, new_places, empty_ledger, spots, is_used, unused, taken, rule_of}
+use Rattle.sheet.specs.Ledger.{Ledger, LiveRule, empty, Run, Posting, put, new_places, empty_ledger, spots, is_used, next_unused, taken, rule_of}
 use Rattle.sheet.specs.Ledger.{Call, Declares, Posts, Prices, Withdraws, Locks, Unlocks, refusal, allowed, done, step}
 use Rattle.sheet.specs.Ledger.{declared, posted, withdrawn}
+use Rattle.sheet.specs.Limits.{place_count}
 use Rattle.sheet.specs.Layout.{no_price}
-use Rattle.sheet.specs.Kept.{Spotted, KeptTerm, KeptRule, KeptPrices, Kept}
+use Rattle.sheet.specs.Kept.{Spotted, KeptTerm, KeptRule, KeptPrices, UsedFirst, LiesIn, KeptRun, KeptPlaces, Kept}
 use Rattle.sheet.proofs.Accepted.{FitDeclare, FitPost, fit_declare, fit_post, fit_price}
 use Rattle.sheet.proofs.Apart.{apart_push}
 use Rattle.sheet.proofs.PricesKept.{kept_amount}
+use Rattle.sheet.proofs.Runs.{before_next, length_taken, used_taken, taken_first, still_used, run_used, run_kept, runs_put, apart_put}
 
 no_rule : (n number : ℕ) (r : LiveRule) → None ≡ Some r → KeptRule n number r
 no_rule n number r e = absurd (none-some r e)
+
+all_empty : (n k : ℕ) → get_or (replicate n empty) k empty ≡ empty
+all_empty n k =
+    let size = length-replicate n empty in
+    ⊎_elim (get_or-replicate n k empty empty) (λ past. get_or_past (replicate n empty) k empty (omega arith)) (cases_lt k n)
+
+-- of places that are all empty, none is used
+none_first : (n : ℕ) → UsedFirst (replicate n empty)
+none_first n j k below on = absurd (false≢true (sym (ap is_used (all_empty n k)) ∙ on))
 
 -- a new sheet
 pub kept_empty : Kept empty_ledger
@@ -39,7 +48,7 @@ kept_empty = (
     no_rule 0,
     (omega arith, λ k h. absurd (omega arith), λ i j below within. absurd (omega arith)),
   ),
-  refl,
+  (length-replicate place_count empty, none_first place_count, λ number. tt, λ m n k r s e. absurd (none-some r e)),
 )
 
 -- what is kept over m spots is kept over n, which are no fewer
@@ -84,22 +93,16 @@ relation_small Equal = omega arith
 relation_small AtMost = omega arith
 relation_small AtLeast = omega arith
 
-some_terms : (ts : List Term) → is_empty ts ≡ false → 0 < length ts
+-- a number below the count of relations is one's
+pub relation_is : (m : ℕ) → m < relation_count → (r : Relation) × (relation_of m ≡ Some r) × (relation_number r ≡ m)
+relation_is zero h = (Equal, refl, refl)
+relation_is (suc zero) h = (AtMost, refl, refl)
+relation_is (suc (suc zero)) h = (AtLeast, refl, refl)
+relation_is (suc (suc (suc m))) h = absurd (omega arith)
+
+pub some_terms : (ts : List Term) → is_empty ts ≡ false → 0 < length ts
 some_terms [] h = absurd (true≢false h)
 some_terms (t ∷ ts) h = omega arith
-
-leading_count : {X : Type 0} (f : X → Bool) (xs : List X) → prefix_len f xs + count_by (λ x. not (f x)) xs ≤ length xs
-leading_count f [] = omega arith
-leading_count f (x ∷ xs) =
-    let rest = leading_count f xs in
-    let few = count_by-le-length (λ x. not (f x)) xs in
-    let count = sum_by-cons (λ x. cond (not (f x)) 1 0) x xs in
-    grind (arith, cases_Bool (f x))
-
-length_taken : (n : ℕ) (ps : List Place) → n ≤ unused ps → length (taken n ps) ≡ length ps
-length_taken n ps room =
-    let fits = leading_count is_used ps in
-    simp (length-append, length-take, length-replicate, length-drop) (omega arith)
 
 -- the rule of a posting, if the relation of its number is q
 abbrev ruled : Posting → Relation → LiveRule
@@ -123,16 +126,52 @@ module _ (l : Ledger) (p : Posting) (fit : FitPost l p) where
       subst (KeptRule (spots l) p.number) same
       (fit.numbered, relation_small q, fit.bounded, (some_terms p.terms fit.some, fit.short, kept_term, apart, fit.few))
 
+  -- the run of the new rule
+  abbrev new_run : Run
+  new_run = record { from = next_unused l.places; count = length p.terms }
+
+  new_run_kept : KeptRun (taken (length p.terms) l.places) (rule_of p) (Some new_run)
+  new_run_kept =
+      let (q, e, _) = relation_is p.relation fit.related in
+      subst (λ o. KeptRun (taken (length p.terms) l.places) (option_map (ruled p) o) (Some new_run)) (sym e)
+      (refl, λ k on. used_taken (length p.terms) l.places fit.room k on.1)
+
+  -- it begins where no used place is left
+  new_run_clear : KeptPlaces l → (m k : ℕ) (r s : Run) → Some new_run ≡ Some r → l.runs m ≡ Some s → LiesIn r k → LiesIn s k → ⊥
+  new_run_clear (size, first, runs, apart) m k r s e old on in_old =
+      let low = before_next l.places first k (run_used l.places (l.contents.rules m) (l.runs m) (runs m) s old k in_old) in
+      let same : r ≡ new_run = cc in
+      let high = subst (λ r. LiesIn r k) same on in
+      absurd (omega arith)
+
+  places_posted : KeptPlaces l → KeptPlaces (posted l p)
+  places_posted kept =
+      let (size, first, runs, apart) = kept in
+      let n = length p.terms in
+      let ps = l.places in
+      let still = still_used n ps fit.room first in
+      let stay = λ (k : ℕ). run_kept ps (taken n ps) still (l.contents.rules k) (l.runs k) (runs k) in (
+        length_taken n ps fit.room ∙ size,
+        taken_first n ps fit.room first,
+        runs_put (taken n ps) (rule_of p) (Some new_run) new_run_kept l.contents.rules l.runs p.number stay,
+        apart_put l.runs apart p.number (Some new_run) (new_run_clear kept),
+      )
+
   kept_posted : Kept l → Kept (posted l p)
   kept_posted kept =
       let (houses, rules, prices) = kept.0 in
       let after = rules_put (spots l) p.number l.contents.rules (rule_of p) rules (kept_rule (relation_of p.relation)) in
-      ((houses, after, prices), length_taken (length p.terms) l.places fit.room ∙ kept.1)
+      ((houses, after, prices), places_posted kept.1)
+
+places_withdrawn : (l : Ledger) (number : ℕ) → KeptPlaces l → KeptPlaces (withdrawn l number)
+places_withdrawn l number (size, first, runs, apart) =
+    let fewer = apart_put l.runs apart number None (λ n k r s e. absurd (none-some r e)) in
+    (size, first, runs_put l.places None None tt l.contents.rules l.runs number runs, fewer)
 
 kept_withdrawn : (l : Ledger) (number : ℕ) → Kept l → Kept (withdrawn l number)
 kept_withdrawn l number kept =
     let (houses, rules, prices) = kept.0 in
-    ((houses, rules_put (spots l) number l.contents.rules None rules (no_rule (spots l) number), prices), kept.1)
+    ((houses, rules_put (spots l) number l.contents.rules None rules (no_rule (spots l) number), prices), places_withdrawn l number kept.1)
 
 kept_done : (l : Ledger) (c : Call) → refusal l c ≡ None → Kept l → Kept (done l c)
 kept_done l (Declares house) e k = kept_declared l house (fit_declare l house e) k

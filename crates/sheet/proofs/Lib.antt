@@ -3,10 +3,12 @@ pub mod Apart
 pub mod Histories
 pub mod Keeps
 pub mod Ledgers
+pub mod LiveTerms
 pub mod Order
 pub mod PriceLists
 pub mod PricesKept
 pub mod Replayed
 pub mod Rules
 pub mod RuleTables
+pub mod Runs
 pub mod TermPlaces

@@ -1,5 +1,5 @@
 -- The term places of a book, the first ones used and the others empty, as the ledger counts and fills them.
-use Rattle.std.proofs.Common.{◌≡◌, ℕ, zero, suc, ◌+◌, ◌-◌, ◌*◌, ◌<◌, ◌≤◌, false, cond, eqb, leb, List, ◌++◌, length, get_or, replicate, sum_by, sym, refl, ap, ◌∙◌, arith}
+use Rattle.std.proofs.Common.{◌≡◌, ℕ, zero, suc, ◌+◌, ◌-◌, ◌*◌, ◌<◌, ◌≤◌, false, cond, eqb, leb, List, ◌++◌, length, get_or, replicate, sum_by, count_by, sym, refl, ap, ◌∙◌, arith}
 use borrow.Rule.Slice.PartMut.{put_mid}
 use Rattle.std.proofs.lemmas.List.{places, same_lists, append_assoc, length-map, length-replicate, get_or-map, get_or-replicate, take_at, drop_at, drop-drop, drop-replicate, replicate-append-replicate}
 use Rattle.std.proofs.lemmas.Bool.{le-leb}
@@ -10,16 +10,16 @@ use Rattle.terms.specs.Tests.{any}
 use Rattle.terms.specs.declared.polynomials.Term.{Term}
 use Rattle.terms.proofs.Says.{any_false}
 use Rattle.sheet.specs.declared.book.Places.{Places}
-use Rattle.sheet.specs.Ledger.{Place, empty, used, unused, next_unused, taken, new_places}
+use Rattle.sheet.specs.Ledger.{Place, empty, used, is_used, unused, next_unused, taken, new_places}
 use Rattle.sheet.specs.Limits.{place_count}
 use Rattle.sheet.specs.Layout.{place_of}
 use Rattle.sheet.specs.Of.{places_of}
 
 -- the first n of the place_count places used
-laid : ℕ → List Place
+pub laid : ℕ → List Place
 laid n = replicate n used ++ replicate (place_count - n) empty
 
-get_or_laid : (n k : ℕ) (d : Place) → k < place_count → get_or (laid n) k d ≡ cond (leb n k) empty used
+pub get_or_laid : (n k : ℕ) (d : Place) → k < place_count → get_or (laid n) k d ≡ cond (leb n k) empty used
 unfolding laid
 get_or_laid n k d h = grind (arith, nat_tests, places)
 
@@ -38,16 +38,20 @@ sum_by_replicate : {X : Type 0} (f : X → ℕ) (n : ℕ) (x : X) → sum_by f (
 sum_by_replicate f zero x = omega arith
 sum_by_replicate f (suc n) x = omega (arith, sum_by-cons f x (replicate n x), sum_by_replicate f n x)
 
-unused_laid : (n : ℕ) → unused (laid n) ≡ place_count - n
+pub unused_laid : (n : ℕ) → unused (laid n) ≡ place_count - n
 unfolding laid
 unused_laid n = simp (sum_by-append, sum_by_replicate) (omega arith)
 
-first_unused : (n m : ℕ) → next_unused (replicate n used ++ replicate m empty) ≡ n
+pub used_laid : (n : ℕ) → count_by is_used (laid n) ≡ n
+unfolding laid
+used_laid n = simp (sum_by-append, sum_by_replicate) (omega arith)
+
+pub first_unused : (n m : ℕ) → next_unused (replicate n used ++ replicate m empty) ≡ n
 first_unused zero zero = refl
 first_unused zero (suc m) = refl
 first_unused (suc n) m = omega (arith, first_unused n m)
 
-taken_laid : (n m : ℕ) → n + m ≤ place_count → taken m (laid n) ≡ laid (n + m)
+pub taken_laid : (n m : ℕ) → n + m ≤ place_count → taken m (laid n) ≡ laid (n + m)
 unfolding laid
 taken_laid n m h =
     let ups = replicate n used in
@@ -80,6 +84,9 @@ untouched = record {
 pub places_untouched : places_of untouched ≡ new_places
 unfolding laid new_places
 places_untouched = places_laid untouched
+
+pub new_laid : new_places ≡ laid 0
+new_laid = sym places_untouched ∙ places_laid untouched
 
 -- the places after a write of terms into the next ones, of which ys is then read
 abbrev pub appended : (p : Places) (ts ys : List Term) → ys ≡ ts → length ts ≤ unused (places_of p) → any blank ts ≡ false → Places

@@ -1,12 +1,12 @@
 -- What every sheet keeps, whatever was called on it.
-use Rattle.std.specs.Prelude.{◌≡◌, ℕ, ◌<◌, ◌≤◌, true, List, map, length, Some, ◌≢◌, slice_index, slice_index_or, unsigned_abs}
+use Rattle.std.specs.Prelude.{◌≡◌, ℕ, ◌+◌, ◌<◌, ◌≤◌, true, List, map, length, Some, None, Option, ◌≢◌, slice_index, slice_index_or, unsigned_abs}
 use Rattle.terms.specs.Limits.{most_coefficient, most_terms, most_named, most_bound, relation_count}
 use Rattle.terms.specs.Groups.{holds, size}
 use Rattle.terms.specs.Relations.{relation_number}
 use Rattle.terms.specs.Terms.{group_of, named, no_term}
 use Rattle.terms.specs.declared.polynomials.Term.{Term}
 use Rattle.sheet.specs.declared.prices.Price.{Price}
-use Rattle.sheet.specs.Ledger.{LiveRule, Contents, Ledger}
+use Rattle.sheet.specs.Ledger.{LiveRule, Contents, Place, empty, Run, Ledger, is_used}
 use Rattle.sheet.specs.Limits.{most_spots, place_count, rule_numbers, most_prices, most_amount}
 use Rattle.sheet.specs.Layout.{price_group, no_price}
 
@@ -54,6 +54,36 @@ KeptPrices n ps =
 abbrev pub KeptContents : Contents → Type 0
 KeptContents c = KeptHouses c.houses × KeptRules c × KeptPrices (length c.houses) c.prices
 
--- what every sheet keeps: that, and its term places, so that no more are ever used
+-- ---- The term places
+
+-- place k is used
+abbrev pub UsedAt : List Place → ℕ → Type 0
+UsedAt ps k = is_used (slice_index_or ps k empty) ≡ true
+
+-- the used places come first
+abbrev pub UsedFirst : List Place → Type 0
+UsedFirst ps = (j k : ℕ) → j < k → UsedAt ps k → UsedAt ps j
+
+-- a place lies in a run
+abbrev pub LiesIn : Run → ℕ → Type 0
+LiesIn run k = (run.from ≤ k) × (k < run.from + run.count)
+
+-- a live rule has a run of used places, as long as its terms, and a number that is not live has none
+abbrev pub KeptRun : List Place → Option LiveRule → Option Run → Type 0
+KeptRun ps None None = Unit {0}
+KeptRun ps None (Some run) = ⊥
+KeptRun ps (Some r) None = ⊥
+KeptRun ps (Some r) (Some run) = (run.count ≡ length r.terms) × ((k : ℕ) → LiesIn run k → UsedAt ps k)
+
+-- no place lies in the runs of two rules
+abbrev pub RunsApart : (ℕ → Option Run) → Type 0
+RunsApart runs = (m n k : ℕ) (r s : Run) → runs m ≡ Some r → runs n ≡ Some s → LiesIn r k → LiesIn s k → m ≡ n
+
+-- what every sheet keeps of its term places: there are 512, the used ones first; each live rule has a run of them, and the runs lie apart
+abbrev pub KeptPlaces : Ledger → Type 0
+KeptPlaces l =
+    (length l.places ≡ place_count) × UsedFirst l.places × ((number : ℕ) → KeptRun l.places (l.contents.rules number) (l.runs number)) × RunsApart l.runs
+
+-- what every sheet keeps
 abbrev pub Kept : Ledger → Type 0
-Kept l = KeptContents l.contents × (length l.places ≡ place_count)
+Kept l = KeptContents l.contents × KeptPlaces l

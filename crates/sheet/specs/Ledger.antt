@@ -1,7 +1,7 @@
 -- The ledger of a sheet: what it holds, which refusal a call meets, what a call does, and what a history of calls tells.
 use Rattle.std.specs.Prelude.{◌≡◌, ℕ, ◌+◌, Bool, true, false, cond, not, ◌&&◌, ◌||◌, List, [], ◌∷◌, ◌++◌, map, length, take, drop, replicate, ℤ, is_some, Some, None, fold, count_by, filter, Option, Result, ◌==◌, nat_eq, nat_le, nat_lt, unsigned_abs}
 use Rattle.std.specs.Option.{option_map}
-use Rattle.std.specs.List.{prefix_len}
+use Rattle.std.specs.List.{prefix_len, range_with_len, sum_by}
 use Rattle.terms.specs.Limits.{most_terms, most_named, most_bound, relation_count}
 use Rattle.terms.specs.Refusals.{Row, row, uppermost, answered, unless, Uppermost}
 use Rattle.terms.specs.Relations.{relation_of}
@@ -46,6 +46,19 @@ pub record Ledger : Type 0 where
   pub places : List Place
   pub runs : ℕ → Option Run
   pub locked : Bool
+
+-- the rule numbers, from 0 up
+unfoldable pub numbers : List ℕ
+numbers = range_with_len 0 rule_numbers
+
+-- how many terms a rule has, none where there is no rule
+abbrev pub term_count : Option LiveRule → ℕ
+term_count None = 0
+term_count (Some r) = length r.terms
+
+-- how many terms are live: those of all live rules together
+abbrev pub live_terms : Contents → ℕ
+live_terms c = sum_by (λ number. term_count (c.rules number)) numbers
 
 -- a function with another value at one argument
 abbrev pub put : {X : Type 0} → (ℕ → X) → ℕ → X → ℕ → X

@@ -1,15 +1,16 @@
 // What a sheet holds, and what every sheet keeps.
-ghost use Rattle.std.specs.Prelude.{◌≡◌};
+ghost use Rattle.std.specs.Prelude.{◌≡◌, ◌≤◌, length};
 ghost use Rattle.std.specs.Option.{option_map};
-ghost use Rattle.sheet.specs.Ledger.{Told, unused};
+ghost use Rattle.sheet.specs.Limits.{place_count};
+ghost use Rattle.sheet.specs.Ledger.{Told, live_terms, unused};
 ghost use Rattle.sheet.specs.Kept.{Kept};
 ghost use Rattle.sheet.specs.RuleTables.{RulesHaveTables};
 ghost use Rattle.sheet.specs.Of.{book_ledger};
-ghost use Rattle.sheet.specs.History.{ledger_in, locked_ledger, rule_seen};
+ghost use Rattle.sheet.specs.History.{ledger_in, draft_ledger, locked_ledger, rule_seen};
 
 use crate::book::Book;
 use crate::prices::Price;
-use crate::states::{Locked, SheetIn, SheetState};
+use crate::states::{Draft, Locked, SheetIn, SheetState};
 use terms::{Relation, Term};
 
 // A live rule as it stands in a sheet: the sum of the terms stands in the relation to the bound.
@@ -41,9 +42,11 @@ impl Book {
 }
 
 impl<S: SheetState> SheetIn<S> {
-    // What every sheet keeps, and that some history leads to it. The call does nothing: its contract is the statement.
+    // What every sheet keeps, so that no more terms are live than there are places, and that some history leads to it. The call does nothing: its
+    // contract is the statement.
     pub fn keeps(&self)
         ensures kept { Kept (ledger_in self.now) }
+        ensures few_terms { live_terms (ledger_in self.now).contents ≤ place_count }
         ensures told { Told (ledger_in self.now) }
     {}
 
@@ -81,4 +84,18 @@ impl Locked {
     {
         self.book.prices.prices()
     }
+}
+
+// How many spots a draft has. Inner: a price that is read from a file is judged by it.
+pub fn spot_count(draft: &Draft) -> usize
+    ensures { result ≡ length (draft_ledger draft.now).contents.houses }
+{
+    draft.book.spots.len()
+}
+
+// The prices of a draft in list order. Inner, as `spot_count`.
+pub fn prices_of(draft: &Draft) -> &[Price]
+    ensures { result.now ≡ (draft_ledger draft.now).contents.prices }
+{
+    draft.book.prices.prices()
 }
