@@ -15,6 +15,8 @@ pub use sheet::{
     Answer, Booking, Card, Draft, DraftState, Locked, LockedState, Pin, Pinning, Price, Rule,
     Sheet, SheetIn, SheetState, replay, replay_pins,
 };
+pub use sheet_file::limits::MOST_FILE;
+pub use sheet_file::{FileFault, FileRefusal, read, write};
 pub use solutions::{instance, next};
 pub use tables::conversion::{to_terms, to_values};
 pub use tables::laws::tables_say_so;

@@ -1,0 +1,10 @@
+pub mod Kinds
+pub mod Records
+pub mod Format
+pub mod Faults
+pub mod Pieces
+pub mod Reading
+pub mod Writing
+pub mod Laws
+pub mod ReadingSteps
+pub mod WritingSteps
