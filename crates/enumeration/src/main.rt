@@ -1,13 +1,19 @@
 // Compares the part with plain enumeration: the conversions of tables, over random tables and over the rules of a sheet, and the answers about
-// lawful line-ups, their figures and the best of them, over random sheets with every card.
+// lawful line-ups, their figures and the best of them, over random sheets with every card; and the reading and writing of files, sound and damaged.
 #![tactic(auto)]
 
 mod bookings;
 mod cards;
+mod damage;
+mod files;
 mod lawful;
 mod lengths;
 mod links;
 mod numbers;
+mod plain_reader;
+mod plain_rows;
+mod plain_sheets;
+mod random_files;
 mod rated;
 mod ratings;
 mod rules;
@@ -15,6 +21,7 @@ mod sheets;
 mod sums;
 mod tallies;
 
+use damage::Damage;
 use lineup::{MOST_ENTRIES, RULE_NUMBERS};
 use numbers::Generator;
 use sheets::Size;
@@ -46,6 +53,15 @@ const SIZES: [Size; 15] = sizes![
     6 0 6,
     5 1 7,
     6 2 9
+];
+
+// What is done to files, and how many of them are read.
+const DAMAGES: [(Damage, u32); 5] = [
+    (Damage::Nothing, 1_000),
+    (Damage::Change, 1_000),
+    (Damage::Cut, 500),
+    (Damage::PutIn, 500),
+    (Damage::Exchange, 1_000),
 ];
 
 const SEED: u64 = 2_026;
@@ -90,8 +106,20 @@ fn show_sheets(rt: &HostRuntime) -> io::Result<()> {
     Ok(())
 }
 
+// Shows, for each damage, how the reading of files went, and how much of it agrees.
+fn show_files(rt: &HostRuntime) -> io::Result<()> {
+    let mut generator = Generator::new(SEED);
+    for (damage, count) in DAMAGES {
+        let comparison = files::compare(rt.alloc(), &mut generator, damage, count)?;
+        let word = damage.word();
+        println!(rt; "files {word}: {comparison}")?;
+    }
+    Ok(())
+}
+
 fn main(rt: HostRuntime) -> io::Result<()> {
     show_tables(&rt)?;
     show_rules(&rt)?;
-    show_sheets(&rt)
+    show_sheets(&rt)?;
+    show_files(&rt)
 }

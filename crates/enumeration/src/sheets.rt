@@ -18,7 +18,7 @@ const MOST_TERMS: u32 = 4;
 
 impl Generator {
     // A group of one to three spots.
-    fn group(&mut self, spots: u32) -> u32 {
+    pub fn group(&mut self, spots: u32) -> u32 {
         let mut group = 0;
         for _ in 0..=self.below(3) {
             group |= 1u32.wrapping_shl(self.below(spots));
