@@ -1,4 +1,4 @@
--- How calls, answers, what stands in a sheet, codes, line-ups and figures read.
+-- How calls, answers, what stands in a sheet, files, codes, line-ups and figures read.
 use Rattle.std.specs.Prelude.{ℕ, Bool, true, false, List, [], ◌∷◌, ◌++◌, map, ℤ, Some, None, Ok, Err, codes, decimal, filter, Option, Result}
 use Rattle.std.specs.List.{range_with_len, flat_map}
 use Rattle.std.specs.Fmt.{signed_decimal}
@@ -13,6 +13,11 @@ use Rattle.sheet.specs.History.{done_answer}
 use Rattle.sheet.specs.Ledger.{LiveRule, Call, Declares, Posts, Prices, Withdraws, Locks, Unlocks}
 use Rattle.sheet.specs.declared.bookings.Answer.{Answer}
 use Rattle.sheet.specs.declared.bookings.Answer.TheVariants.{Spot, Done, Refused, PassedOver}
+use Rattle.sheet_file.specs.Faults.{fault_number, file_refusal_number, file_refusal_word}
+use Rattle.sheet_file.specs.declared.faults.FileFault.{FileFault}
+use Rattle.sheet_file.specs.declared.faults.FileFault.TheVariants.{Flaw, Cause}
+use Rattle.sheet_file.specs.declared.faults.FileRefusal.{FileRefusal}
+use Rattle.sheet_file.specs.declared.faults.FileRefusal.TheVariants.{BadFile}
 use Rattle.elimination.specs.Codes.{code_number, code_of}
 use Rattle.elimination.specs.declared.codes.Code.{Code}
 use Rattle.elimination.specs.declared.codes.Code.TheVariants.{Out, In, Free, Dead}
@@ -90,6 +95,44 @@ rule_text number r = codes "rule " ++ bounds_text number (relation_word r.relati
 
 abbrev pub unused_text : ℕ → List ℕ
 unused_text places = codes "unused places " ++ decimal places
+
+-- ---- Files
+
+-- how an answer of write reads
+abbrev pub write_answer_text : Result ℕ Refusal → List ℕ
+write_answer_text (Ok length) = codes "file of " ++ (decimal length ++ codes " bytes")
+write_answer_text (Err e) = refused_text e
+
+-- how a call of write reads with its answer
+abbrev pub write_text : Result ℕ Refusal → List ℕ
+write_text answer = codes "write -> " ++ write_answer_text answer
+
+-- what is wrong with a record
+abbrev pub fault_text : FileFault → List ℕ
+fault_text Flaw = codes "flaw"
+fault_text (Cause e) = refusal_word e
+
+-- how a fault at a place reads, with its number
+abbrev pub placed_fault_text : FileRefusal → List ℕ
+placed_fault_text (BadFile place fault) = codes " at " ++ (decimal place ++ (codes ": " ++ (decimal (fault_number fault) ++ (codes " " ++ fault_text fault))))
+
+-- how a file's refusal reads, with its number
+abbrev pub bad_file_text : FileRefusal → List ℕ
+bad_file_text e = codes "refused " ++ (decimal (file_refusal_number e) ++ (codes " " ++ (file_refusal_word e ++ placed_fault_text e)))
+
+-- whether what was read back is what was written
+abbrev pub contents_text : Bool → List ℕ
+contents_text true = codes "the same spots, rules and prices"
+contents_text false = codes "other spots, rules or prices"
+
+-- how an answer of read reads, with what came of the sheet: whether it holds the same, and how many places were unused before and are now
+abbrev pub read_answer_text : Result (Unit {0}) FileRefusal → Bool → ℕ → ℕ → List ℕ
+read_answer_text (Ok x) same before after = contents_text same ++ (codes "; unused places " ++ (decimal before ++ (codes " -> " ++ decimal after)))
+read_answer_text (Err e) same before after = bad_file_text e
+
+-- how a call of read reads with its answer
+abbrev pub read_text : Result (Unit {0}) FileRefusal → Bool → ℕ → ℕ → List ℕ
+read_text answer same before after = codes "read -> " ++ read_answer_text answer same before after
 
 -- ---- What a solved sheet shows
 

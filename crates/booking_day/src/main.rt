@@ -1,7 +1,9 @@
-// Books a break from nothing, and shows what came of it, which line-ups are lawful, and which of them is best.
+// Books a break from nothing, and shows what came of it, what its file holds, which line-ups are lawful, and which of them is best.
 #![tactic(auto)]
 
 mod day;
+mod file_texts;
+mod files;
 mod line_up_texts;
 mod line_ups;
 mod rating_texts;
@@ -38,7 +40,8 @@ fn show_contents(rt: &impl Print, sheet: &Locked) -> io::Result<()> {
     rt.println(UnusedPlaces(sheet.unused_places()))
 }
 
-// Makes the calls of the day on a new sheet, asks what line-ups it has and what they take, and shows all of it.
+// Makes the calls of the day on a new sheet, writes it to a file and reads it back, asks what line-ups it has and what they take, and shows all of
+// it.
 fn show_day(rt: &impl Print) -> io::Result<()> {
     let histories = Histories {
         bookings: DAY,
@@ -62,6 +65,7 @@ fn show_day(rt: &impl Print) -> io::Result<()> {
     );
     show_calls(rt, DAY, &answers)?;
     show_contents(rt, &day.sheet)?;
+    files::show_file(rt, &day.sheet)?;
     line_ups::show_outcome(rt, &day, &mut choices, &mut figures)
 }
 
