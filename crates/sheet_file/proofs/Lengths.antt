@@ -8,7 +8,7 @@ use Rattle.sheet.specs.Limits.{place_count, rule_numbers}
 use Rattle.sheet.specs.Ledger.{LiveRule, Contents, numbers, term_count, live_terms}
 use Rattle.sheet.specs.Kept.{KeptRules, KeptContents}
 use Rattle.sheet_file.specs.Records.{SpotRecord, RuleRecord, TermRecord, PriceRecord, record_bytes}
-use Rattle.sheet_file.specs.Format.{file, head_of}
+use Rattle.sheet_file.specs.Format.{file, most_file, head_of}
 use Rattle.sheet_file.specs.WritingSteps.{spots_bytes, terms_bytes, prices_bytes, rule_bytes, bytes_under, rules_bytes}
 use Rattle.sheet_file.proofs.Parts.{pieces_more, length_numbers, rule_parts, rule_at, file_parts}
 
@@ -52,21 +52,21 @@ few_terms c kept number None e = omega arith
 few_terms c kept number (Some r) e = (kept number r e).3.1
 
 -- how many bytes the rules under the first n numbers take
-abbrev pub rules_below : Contents → ℕ → ℕ
-rules_below c n = length (flat_map (bytes_under c) (take n numbers))
+abbrev pub length_below : Contents → ℕ → ℕ
+length_below c n = length (flat_map (bytes_under c) (take n numbers))
 
-pub rules_below_more : (c : Contents) (n : ℕ) (o : Option LiveRule) → o ≡ c.rules n → n < rule_numbers
-    → rules_below c (n + 1) ≡ rules_below c n + length (rule_bytes n o)
-rules_below_more c n o e h =
+pub length_below_more : (c : Contents) (n : ℕ) (o : Option LiveRule) → o ≡ c.rules n → n < rule_numbers
+    → length_below c (n + 1) ≡ length_below c n + length (rule_bytes n o)
+length_below_more c n o e h =
     ap length (pieces_more (bytes_under c) numbers n 0 (omega (arith, length_numbers)))
     ∙ ap (λ ys. length (flat_map (bytes_under c) (take n numbers) ++ ys)) (rule_at c n o e h)
     ∙ length-append (flat_map (bytes_under c) (take n numbers)) (rule_bytes n o)
 
-pub rules_below_all : (c : Contents) (n : ℕ) → n ≡ rule_numbers → rules_below c n ≡ length (rules_bytes c)
-rules_below_all c n e = ap (λ ns. length (flat_map (bytes_under c) ns)) (take_all n numbers (omega (arith, length_numbers)))
+pub length_below_all : (c : Contents) (n : ℕ) → n ≡ rule_numbers → length_below c n ≡ length (rules_bytes c)
+length_below_all c n e = ap (λ ns. length (flat_map (bytes_under c) ns)) (take_all n numbers (omega (arith, length_numbers)))
 
-pub rules_below_few : (c : Contents) → KeptRules c → (n : ℕ) → n ≤ rule_numbers → rules_below c n ≤ (7 + 9 * most_terms) * n
-rules_below_few c kept n h =
+pub length_below_few : (c : Contents) → KeptRules c → (n : ℕ) → n ≤ rule_numbers → length_below c n ≤ (7 + 9 * most_terms) * n
+length_below_few c kept n h =
     let each : (k : ℕ) → length (bytes_under c k) ≤ 7 + 9 * most_terms =
     λ k. omega (arith, few_terms c kept k (c.rules k) refl, rule_at_most k (c.rules k))
     in
@@ -84,10 +84,6 @@ file_length c =
       each_length (λ house. record_bytes (SpotRecord house)) 5 (λ house. refl) c.houses,
       each_length (λ price. record_bytes (PriceRecord price)) 9 (λ price. refl) c.prices,
     )
-
--- the length of the longest file: 32 spots, 64 rules, 512 terms and 128 prices
-abbrev pub most_file : ℕ
-most_file = 6368
 
 pub file_short : (c : Contents) → KeptContents c → live_terms c ≤ place_count → length (file c) ≤ most_file
 file_short c kept few = omega (arith, file_length c, rules_at_most c numbers, length_numbers, kept.0.0, kept.2.0)

@@ -7,10 +7,10 @@ use Rattle.sheet.proofs.Keeps.{kept_empty, kept_step}
 use Rattle.sheet.proofs.Histories.{kept_of}
 use Rattle.sheet.proofs.LiveTerms.{few_terms}
 use Rattle.sheet_file.specs.declared.faults.FileRefusal.{FileRefusal}
-use Rattle.sheet_file.specs.Format.{file}
+use Rattle.sheet_file.specs.Format.{file, most_file}
 use Rattle.sheet_file.specs.Reading.{reading}
 use Rattle.sheet_file.specs.Laws.{Packed, ReadsBack, HousesFit, IsFile}
-use Rattle.sheet_file.proofs.Lengths.{most_file, file_short}
+use Rattle.sheet_file.proofs.Lengths.{file_short}
 use Rattle.sheet_file.proofs.SameContents.{reads_back}
 use Rattle.sheet_file.proofs.Wholes.{IsBytes}
 use Rattle.sheet_file.proofs.SameBytes.{read_ok}

@@ -64,14 +64,14 @@ module _ (c : Contents) (kept : KeptContents c) where
   abbrev pub held : ℕ → ℕ → (ℕ → Option Run) → Ledger
   held n u runs = draft c.houses (rules_below c.rules n) [] u runs
 
-  abbrev pub records_at : ℕ → List Record
-  records_at number = rule_records number (c.rules number)
+  abbrev pub records_under : ℕ → List Record
+  records_under number = rule_records number (c.rules number)
 
-  rules_first : (ns : List ℕ) → NoTermFirst (flat_map records_at ns ++ map PriceRecord c.prices)
+  rules_first : (ns : List ℕ) → NoTermFirst (flat_map records_under ns ++ map PriceRecord c.prices)
   rules_first [] = prices_first c.prices
   rules_first (n ∷ ns) =
-      let rest = flat_map records_at ns in
-      subst NoTermFirst (sym (append_assoc (records_at n) rest (map PriceRecord c.prices)))
+      let rest = flat_map records_under ns in
+      subst NoTermFirst (sym (append_assoc (records_under n) rest (map PriceRecord c.prices)))
       (rule_first n (c.rules n) (rest ++ map PriceRecord c.prices) (rules_first ns))
 
   -- the sheet after one rule more
@@ -125,7 +125,7 @@ module _ (c : Contents) (kept : KeptContents c) where
 
   pub rules_rebuild : (k n u : ℕ) (runs : ℕ → Option Run) → rule_numbers ≤ n + k → live_terms c ≤ place_count
       → u + sum_by (λ number. term_count (c.rules number)) (range_with_len n k) ≡ live_terms c
-      → Rebuilds c (held n u runs) (flat_map records_at (range_with_len n k) ++ map PriceRecord c.prices)
+      → Rebuilds c (held n u runs) (flat_map records_under (range_with_len n k) ++ map PriceRecord c.prices)
   rules_rebuild zero n u runs top few all =
       let rules = fun_ext (λ k. sym (all_below n (omega arith) k)) in
       subst (λ f. Rebuilds c (draft c.houses f [] u runs) (map PriceRecord c.prices)) rules
@@ -134,7 +134,7 @@ module _ (c : Contents) (kept : KeptContents c) where
       let counted : ℕ → ℕ = λ number. term_count (c.rules number) in
       let next = range_with_len (n + 1) k in
       let split = sum_by-cons counted n next in
-      let rest = flat_map records_at next ++ map PriceRecord c.prices in
-      subst (Rebuilds c (held n u runs)) (sym (append_assoc (records_at n) (flat_map records_at next) (map PriceRecord c.prices)))
+      let rest = flat_map records_under next ++ map PriceRecord c.prices in
+      subst (Rebuilds c (held n u runs)) (sym (append_assoc (records_under n) (flat_map records_under next) (map PriceRecord c.prices)))
       (rule_rebuild n u (u + counted n) runs rest (rules_first next) (c.rules n) refl refl (omega arith)
       (λ later. rules_rebuild k (n + 1) (u + counted n) later (omega arith) few (omega arith)))

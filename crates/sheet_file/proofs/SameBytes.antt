@@ -232,14 +232,14 @@ both bytes small (suc left) place h =
 no_file : file empty_ledger.contents ≡ []
 no_file = ap (λ rs. flat_map record_bytes (rs ++ [])) (flat_no_numbers {A = Record} (λ _. []) (λ j h. refl))
 
-outcome : (bytes : List ℕ) → IsBytes bytes → Outcome bytes (reading bytes)
-outcome bytes small = (both bytes small (length bytes) 0 (omega arith)).0 empty_ledger good_empty no_file
+says : (bytes : List ℕ) → IsBytes bytes → Outcome bytes (reading bytes)
+says bytes small = (both bytes small (length bytes) 0 (omega arith)).0 empty_ledger good_empty no_file
 
 -- accepted bytes are the file of the sheet that was read, and as many of its places are used as terms are live
 pub read_ok : (bytes : List ℕ) (l : Ledger) → IsBytes bytes → reading bytes ≡ Ok l
     → IsSheet l × (file l.contents ≡ bytes) × Packed l
-read_ok bytes l small e = let r = subst (Outcome bytes) e (outcome bytes small) in (is_sheet l r.good, r.same, packed l r.good)
+read_ok bytes l small e = let r = subst (Outcome bytes) e (says bytes small) in (is_sheet l r.good, r.same, packed l r.good)
 
 -- no fault is missed
 pub read_err : (bytes : List ℕ) (e : FileRefusal) → IsBytes bytes → reading bytes ≡ Err e → FaultShown bytes e
-read_err bytes e small h = subst (Outcome bytes) h (outcome bytes small)
+read_err bytes e small h = subst (Outcome bytes) h (says bytes small)

@@ -49,9 +49,9 @@ fresh_behind xs x ys apart =
 pub spotted_on : (n g : ℕ) → Spotted n g → beyond n g ≡ false
 spotted_on n g h = false_from_ne_true (beyond n g) (λ b. let (i, high, on) = (beyond_says n g).0 b in let low = h.1 i on in absurd (omega arith))
 
-some_terms : (ts : List Term) → 0 < length ts → is_empty ts ≡ false
-some_terms [] h = absurd (omega arith)
-some_terms (t ∷ ts) h = refl
+not_empty : (ts : List Term) → 0 < length ts → is_empty ts ≡ false
+not_empty [] h = absurd (omega arith)
+not_empty (t ∷ ts) h = refl
 
 module _ (n : ℕ) (ts : List Term) (kept : KeptTerms n ts) where
   each : (f : Term → Bool) → ((t : Term) → KeptTerm n t → f t ≡ false) → any f ts ≡ false
@@ -77,7 +77,7 @@ fit_rule l number r kept free room =
       room = room;
       fresh = free;
       apart = repeats_apart (map group_of ts) terms.3;
-      some = some_terms ts terms.0;
+      some = not_empty ts terms.0;
       spotted = all_named (spots l) ts terms;
       sized = all_sized (spots l) ts terms;
       bounded = kept.2;

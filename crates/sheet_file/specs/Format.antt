@@ -26,3 +26,7 @@ sheet_records c = map SpotRecord c.houses ++ (flat_map (λ number. rule_records 
 -- the file of a sheet
 abbrev pub file : Contents → List ℕ
 file c = flat_map record_bytes (sheet_records c)
+
+-- no file is longer: 32 spots of 5 bytes, 64 rules of 7, 512 terms and 128 prices of 9
+abbrev pub most_file : ℕ
+most_file = 6368

@@ -2,12 +2,11 @@
 ghost use Rattle.std.specs.Prelude.{◌≡◌, ◌≤◌, ◌↔◌, Ok, Err, length, IsOk, OnOk, IfErr, MatchResult};
 ghost use Rattle.std.specs.Result.{result_unwrap_or};
 ghost use Rattle.sheet.specs.History.{draft_ledger};
-ghost use Rattle.sheet_file.specs.Format.{file};
+ghost use Rattle.sheet_file.specs.Format.{file, most_file};
 ghost use Rattle.sheet_file.specs.Reading.{reading, read_answer};
 ghost use Rattle.sheet_file.specs.Laws.{Packed, IsFile, FaultShown, ToldAsSix, PricesUppermost};
 
 use crate::faults::FileRefusal;
-use crate::limits::MOST_FILE;
 use crate::reader::Reader;
 use sheet::Draft;
 
@@ -30,7 +29,7 @@ pub fn read(draft: &mut Draft, bytes: &[u8]) -> Result<(), FileRefusal>
     ensures accepted { IsOk result ↔ IsFile bytes.now }
     ensures same_bytes { OnOk result (file (draft_ledger draft.new).contents ≡ bytes.now) }
     ensures packed { OnOk result (Packed (draft_ledger draft.new)) }
-    ensures most { OnOk result (length bytes.now ≤ MOST_FILE) }
+    ensures most { OnOk result (length bytes.now ≤ most_file) }
     ensures refused { IfErr result (λ e. FaultShown bytes.now e) }
     ensures causes { IfErr result (λ e. ToldAsSix e) }
     ensures uppermost { PricesUppermost }

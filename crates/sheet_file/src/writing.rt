@@ -3,7 +3,7 @@ ghost use Rattle.std.specs.Prelude.{◌≡◌, ◌+◌, ◌≤◌, Some, length}
 ghost use Rattle.terms.specs.Refusals.{Uppermost};
 ghost use Rattle.sheet.specs.History.{locked_ledger, rule_seen};
 ghost use Rattle.sheet_file.specs.Records.{SpotRecord, RuleRecord, TermRecord, PriceRecord, record_bytes};
-ghost use Rattle.sheet_file.specs.Format.{file, head_of};
+ghost use Rattle.sheet_file.specs.Format.{file, most_file, head_of};
 ghost use Rattle.sheet_file.specs.Laws.{HousesFit, ReadsBack};
 ghost use Rattle.sheet_file.specs.WritingSteps.{Written, pair_bytes, spots_bytes, terms_bytes, prices_bytes, rule_bytes, rules_bytes};
 ghost use Rattle.sheet_file.specs.Writing.{write_rows, write_answer, written_space};
@@ -150,7 +150,8 @@ pub fn write(sheet: &Locked, space: &mut [u8]) -> Result<usize, Refusal>
     ensures answer { result ≡ write_answer (locked_ledger sheet.now).contents (length space.old) }
     ensures space { space.new ≡ written_space (locked_ledger sheet.now).contents space.old }
     ensures uppermost { Uppermost (write_rows (locked_ledger sheet.now).contents (length space.old)) }
-    ensures most { length (file (locked_ledger sheet.now).contents) ≤ MOST_FILE }
+    ensures most { length (file (locked_ledger sheet.now).contents) ≤ most_file }
+    ensures enough { MOST_FILE ≡ most_file }
     ensures same_contents { ReadsBack (locked_ledger sheet.now).contents }
 {
     let houses = sheet.houses();

@@ -2,7 +2,7 @@ use Rattle.std.proofs.Common.{◌≡◌, ◌+◌, ◌*◌, length, Some, None, s
 use Rattle.std.specs.Option.{option_map}
 use Rattle.sheet.specs.Ledger.{LiveRule, Contents}
 use Rattle.sheet.specs.History.{locked_ledger, rule_seen}
-use Rattle.sheet_file.proofs.Lengths.{file_length, rules_below_all, rules_below_more, rules_below_few, rule_length}
+use Rattle.sheet_file.proofs.Lengths.{file_length, length_below_all, length_below_more, length_below_few, rule_length}
 use Rattle.sheet_file.proofs.writing.file_length.Goals as goal
 use Rattle.sheet_file.proofs.writing.file_length.Goals.{in-Some, in_default}
 
@@ -18,8 +18,8 @@ overflow_add-length-in-Some-2 c =
       c.loop-number.invariant,
       kept.0.0,
       kept.2.0,
-      rules_below_more k n (Some rule) live (omega arith),
-      rules_below_few k kept.1 (c.loop-number.number + 1) (omega arith),
+      length_below_more k n (Some rule) live (omega arith),
+      length_below_few k kept.1 (c.loop-number.number + 1) (omega arith),
       rule_length n rule,
       ap (λ x. length rule.terms * x) c.record_length-in-Some-2.ensures,
     )
@@ -35,16 +35,16 @@ loop-number-preserved c =
           omega (
             arith,
             c.loop-number.invariant,
-            rules_below_more k n (Some rule) live (omega arith),
+            length_below_more k n (Some rule) live (omega arith),
             rule_length n rule,
             ap (λ x. length rule.terms * x) w.record_length-in-Some-2.ensures,
           )
       | in_default w ↦
           let none : None ≡ k.rules n = sym (ap (option_map rule_seen) w.in_default.is) ∙ c.rule.ensures in
-          omega (arith, c.loop-number.invariant, rules_below_more k n None none (omega arith))
+          omega (arith, c.loop-number.invariant, length_below_more k n None none (omega arith))
     ]
 
 pub returns : goal.returns
 returns c =
     let k : Contents = (locked_ledger c.args.sheet.now).contents in
-    omega (arith, c.loop-number.invariant, file_length k, rules_below_all k c.loop-number.number (omega arith))
+    omega (arith, c.loop-number.invariant, file_length k, length_below_all k c.loop-number.number (omega arith))

@@ -3,8 +3,7 @@ use Rattle.sheet.specs.Ledger.{Contents}
 use Rattle.sheet.specs.History.{Locked, locked_ledger}
 use Rattle.sheet.specs.Kept.{Kept}
 use Rattle.sheet.proofs.Histories.{kept_of}
-use Rattle.sheet_file.specs.Format.{file}
-use Rattle.sheet_file.proofs.Lengths.{most_file}
+use Rattle.sheet_file.specs.Format.{file, most_file}
 use Rattle.sheet_file.specs.Laws.{HousesFit, ReadsBack}
 use Rattle.sheet_file.proofs.ReadLaws.{sheet_reads_back, sheet_short}
 use Rattle.sheet_file.proofs.WrittenFile.{room_for_spots, room_for_rules, room_for_prices, written_parts, written_answer, written_whole}
@@ -48,6 +47,7 @@ returns c =
       space = written_whole k room whole;
       uppermost = search rules;
       most = short_file c.args.sheet.now;
+      enough = refl;
       same_contents = read_again c.args.sheet.now c.houses-houses.ensures c.houses_fit.ensures;
     }
 
