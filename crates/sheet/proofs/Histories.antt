@@ -44,8 +44,12 @@ Sound l = record { told : Told l; kept : ∥ Kept l ∥₁ }
 pub sound_new : (l : Ledger) → l ≡ empty_ledger → Sound l
 sound_new l e = record { told = ∣ ([], sym e) ∣₁; kept = ∣ subst Kept (sym e) kept_empty ∣₁ }
 
+pub told_step : (l m : Ledger) (c : Call) → Told l → m ≡ step l c → Told m
+told_step l m c told e =
+    ∥∥₁_map told (λ p. (p.0 ++ c ∷ [], fold_push step empty_ledger p.0 c ∙ ap (λ k. step k c) p.1 ∙ sym e))
+
+pub kept_after : (l m : Ledger) (c : Call) → ∥ Kept l ∥₁ → m ≡ step l c → ∥ Kept m ∥₁
+kept_after l m c kept e = ∥∥₁_map kept (λ x. subst Kept (sym e) (kept_step l c x))
+
 pub sound_after : (l m : Ledger) (c : Call) → Told l → ∥ Kept l ∥₁ → m ≡ step l c → Sound m
-sound_after l m c told kept e = record {
-  told = ∥∥₁_map told (λ p. (p.0 ++ c ∷ [], fold_push step empty_ledger p.0 c ∙ ap (λ k. step k c) p.1 ∙ sym e));
-  kept = ∥∥₁_map kept (λ x. subst Kept (sym e) (kept_step l c x));
-}
+sound_after l m c told kept e = record { told = told_step l m c told e; kept = kept_after l m c kept e }
