@@ -37,11 +37,14 @@ pub fn has_unfit(terms: &[Term]) -> bool
     terms.iter().any(|term| is_unfit(*term))
 }
 
-// Some term has this group.
+// Some term has this group. All terms are looked at, found or not: most lists have no group twice, and a loop with one way out is done several
+// terms at a time.
 fn has_group(terms: &[Term], group: u32) -> bool
     ensures { result ≡ any (λ t. group == t.group) terms.now }
 {
-    terms.iter().any(|term| group == term.group)
+    terms
+        .iter()
+        .fold(false, |found, term| found | (group == term.group))
 }
 
 // Two terms have the same group. Each term is compared with those behind it, which a walk down the list has at hand; a chain would need an
