@@ -66,3 +66,8 @@ module _ {S B C L A : Type 0} {R : S → B → S → A → Type 0} (told : S →
 pub answers_alone : {S C A : Type 0} (next : S → C → S) (answer : C → A) (s : S) (cs : List C) → answers next (λ _. answer) s cs ≡ map answer cs
 answers_alone next answer s [] = refl
 answers_alone next answer s (c ∷ cs) = ap (λ xs. answer c ∷ xs) (answers_alone next answer (next s c) cs)
+
+-- what no call changes is as it was
+pub same_all : {L C : Type 0} (l : L) (cs : List C) → fold (λ k _. k) l cs ≡ l
+same_all l [] = refl
+same_all l (c ∷ cs) = same_all l cs

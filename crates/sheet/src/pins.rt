@@ -80,8 +80,11 @@ pub fn replay_pins(history: &[Pinning], answers: &mut [Result<(), Refusal>]) -> 
     ensures after { pins_of result ≡ tell_pins (map pin_call history.now) }
     ensures answers { answers.new ≡ noted answers.old (map pin_answer (map pin_call history.now)) }
 {
-    replay_with(Card::new(), history, answers, |mut card: Card, pinning| {
+    // The state that goes from call to call is a loan of the card, so that no turn copies the card.
+    let mut card = Card::new();
+    replay_with(&mut card, history, answers, |card: &mut Card, pinning| {
         let answer = card.make(pinning);
         (card, answer)
-    })
+    });
+    card
 }
